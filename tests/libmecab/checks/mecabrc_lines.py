@@ -1,12 +1,13 @@
-"""Lines of a mecabrc over both libraries: values with blanks around them, and what both reject."""
+"""Lines of a mecabrc: values with blanks around them, and lines that both libraries reject."""
 import re
 import subprocess
 
-from libmecab.checks.all_morphs import dictionary, without_last_blanks
-from libmecab.checks.common import first_lines
+from libmecab.checks.all_morphs import ipadic, without_last_blanks
+from libmecab.checks.common import Command
+from libmecab.checks.context import Context
 
 OWN = "output-format-type = own\n"
-# What MeCab takes as a number may end in blanks. It keeps the blanks at the end of a text.
+# A number may end in blanks. MeCab keeps the blanks at the end of a text.
 LINES = (
     *(f"all-morphs ={value}\n" for value in (" 1", "1 ", "1\r", "\t1\t", "1\v\f", "01", "+1")),
     *(f"all-morphs ={value}\n" for value in ("2", "true", "1x", "1 1", "")),
@@ -31,19 +32,23 @@ LINES = (
 PRINTED = ["-B", r"[%H]\n"]
 
 
-def is_rejected(done):
-    """Ours says so on standard error. MeCab prints the place in its sources and what was wrong."""
-    return done.stderr != b"" or re.match(rb"\w+\.cpp\(\d+\) \[", done.stdout) is not None
+def is_rejected(printed: bytes, errors: bytes) -> bool:
+    """Returns whether a line is rejected.
+
+    Our library prints an error on standard error, and MeCab a place in its sources on standard
+    output.
+    """
+    return errors != b"" or re.match(rb"\w+\.cpp\(\d+\) \[", printed) is not None
 
 
-def printed_by_lines_of_settings(lines, environment, folder):
-    """What each line makes the program print, or that it is rejected."""
-    few = without_last_blanks(first_lines(lines, 20, folder), folder)
-    settings, told = folder / "lines-of-settings", []
+def mecabrc_output(context: Context) -> bytes:
+    """Returns what the program mecab prints with each line, or that the line is rejected."""
+    few = without_last_blanks(context.first_lines(20), context.folder)
+    settings, outputs = context.folder / "mecabrc-line", []
+    command: Command = ["mecab", "-r", settings, "-d", ipadic(context), *PRINTED, few]
     for text in LINES:
         settings.write_bytes(text.encode())
-        words = ["mecab", "-r", settings, "-d", dictionary(environment, folder), *PRINTED, few]
-        done = subprocess.run(list(map(str, words)), capture_output=True, env=environment)
-        printed = b"rejected\n" if is_rejected(done) else done.stdout
-        told.append(f"{text!r}\n".encode() + printed)
-    return b"".join(told)
+        done = subprocess.run(command, capture_output=True, env=context.environment)
+        rejected = is_rejected(done.stdout, done.stderr)
+        outputs.append(f"{text!r}\n".encode() + (b"rejected\n" if rejected else done.stdout))
+    return b"".join(outputs)

@@ -1,11 +1,14 @@
-"""UniDic's output formats over both libraries: the settings of Debian's unidic-mecab 3.1.1 beside a small dictionary of UniDic's columns."""
-from libmecab.checks.common import CLIENTS, compiled, first_lines, run
-from libmecab.checks.dictionaries import compile_for_both
+"""UniDic's output formats: the settings of Debian's unidic-mecab 3.1.1 and a small dictionary."""
+from pathlib import Path
 
-# The settings say what UniDic's own say, and the columns after the costs have UniDic's order. Words and costs are made up.
+from libmecab.checks.context import Context
+from libmecab.checks.dictionaries import compiled_dictionary
+
+# The columns after the costs, in UniDic's order. Words and costs are invented.
 FIELDS = (
-    "pos1 pos2 pos3 pos4 cType cForm lForm lemma orth pron orthBase pronBase goshu iType iForm fType fForm iConType fConType lType kana kanaBase"
-    " form formBase aType aConType aModType lid lemma_id"
+    "pos1 pos2 pos3 pos4 cType cForm lForm lemma orth pron orthBase pronBase goshu iType iForm"
+    " fType fForm iConType fConType lType kana kanaBase form formBase aType aConType aModType lid"
+    " lemma_id"
 ).split()
 QUOTED = {13, 14, 15, 16, 17, 18, 24, 25, 26}
 ALL_FIELDS = ",".join(f'"%f[{i}]"' if i in QUOTED else f"%f[{i}]" for i in range(len(FIELDS)))
@@ -81,21 +84,21 @@ SENTENCES = 'すもももももももの本\n東京都に住む\n 引用,"の"�
 IDS = 4
 
 
-def costs():
-    """A cost for each right and left id, so that paths with the same words cost different sums."""
-    rows = [
+def costs() -> str:
+    """Returns a matrix.def in which paths with the same words have different costs."""
+    lines = [
         f"{right} {left} {(37 * right + 101 * left) % 700 - 300}"
         for right in range(IDS)
         for left in range(IDS)
     ]
-    return "\n".join([f"{IDS} {IDS}", *rows, ""])
+    return "\n".join([f"{IDS} {IDS}", *lines, ""])
 
 
-def write_sources(folder):
+def write_sources(folder: Path) -> None:
+    """Writes the sources of the dictionary, and its dicrc, in a new folder."""
     folder.mkdir()
-    ids = "".join(
-        f"{number} {name},*,*,*,*,*\n" for number, name in enumerate(("BOS/EOS", "名詞", "助詞", "動詞"))
-    )
+    names = enumerate(("BOS/EOS", "名詞", "助詞", "動詞"))
+    ids = "".join(f"{number} {name},*,*,*,*,*\n" for number, name in names)
     files = {
         "lex.csv": LEXICON,
         "char.def": CHARACTERS,
@@ -103,27 +106,21 @@ def write_sources(folder):
         "matrix.def": costs(),
         "left-id.def": ids,
         "right-id.def": ids,
+        "dicrc": DICRC,
     }
-    for name, text in {**files, "dicrc": DICRC}.items():
+    for name, text in files.items():
         (folder / name).write_text(text)
 
 
-def printed_over_unidic(lines, environment, folder):
-    made, sentences, endings = (
-        folder / "unidic",
-        folder / "unidic-sentences",
-        compiled(CLIENTS / "endings.c", folder, "-lmecab"),
-    )
-    if not made.exists():
-        write_sources(folder / "unidic-sources")
-        compile_for_both(folder / "unidic-sources", made)
-        sentences.write_bytes(SENTENCES.encode() + first_lines(lines, 1000, folder).read_bytes())
-    dictionary = made / ("system.img" if "KUMQUATSIEVE_DICTIONARY" in environment else "mecab")
-    told = [
-        run(["mecab", "-d", dictionary, *words, sentences], environment)
-        for words in ([], *([f"-O{kind}"] for kind in TYPES), ["-N1"])
-    ]
-    told += [run([endings, dictionary, kind, sentences], environment) for kind in TYPES]
-    return b"".join(told) + run(
-        [compiled(CLIENTS / "node_fields.c", folder, "-lmecab"), dictionary, sentences], environment
-    )
+def unidic_output(context: Context) -> bytes:
+    """Returns what the program mecab and two clients in C print in each format."""
+    sources, sentences = context.folder / "unidic-sources", context.folder / "unidic-sentences"
+    if not sources.exists():
+        write_sources(sources)
+        sentences.write_bytes(SENTENCES.encode() + context.first_lines(1000).read_bytes())
+    dictionary = compiled_dictionary(context, "unidic", sources)
+    endings, fields = context.client("endings.c"), context.client("node_fields.c")
+    formats: list[list[str]] = [[], *([f"-O{kind}"] for kind in TYPES), ["-N1"]]
+    outputs = [context.run(["mecab", "-d", dictionary, *words, sentences]) for words in formats]
+    outputs += [context.run([endings, dictionary, kind, sentences]) for kind in TYPES]
+    return b"".join(outputs) + context.run([fields, dictionary, sentences])

@@ -1,5 +1,8 @@
-// One tagger of MeCab's Java module in four threads, each with a lattice of its own: OneTagger DICTIONARY LINES. Prints what each thread is told of
-// each line, thread after thread, and whether a sentence with characters past U+FFFF is cut.
+// One tagger of MeCab's Java module in four threads, each with its own lattice:
+// OneTagger DICTIONARY LINES
+//
+// It prints the lattice of each line, thread after thread, and whether a sentence with characters
+// past U+FFFF is segmented.
 import java.io.PrintStream;
 import java.nio.charset.StandardCharsets;
 import java.nio.file.Files;
@@ -18,7 +21,8 @@ public class OneTagger {
         System.loadLibrary("MeCab");
     }
 
-    private static String told(Tagger tagger, List<String> lines) {
+    /** Returns the lattice and the nodes of each line. */
+    private static String parsed(Tagger tagger, List<String> lines) {
         Lattice lattice = new Lattice();
         StringBuilder all = new StringBuilder();
         for (String line : lines) {
@@ -26,7 +30,8 @@ public class OneTagger {
             if (!tagger.parse(lattice)) throw new IllegalStateException(lattice.what());
             all.append(lattice.toString());
             for (Node node = lattice.bos_node(); node != null; node = node.getNext()) {
-                all.append(node.getFeature()).append(' ').append(node.getPosid()).append(' ').append(node.getCost()).append('\n');
+                all.append(node.getFeature()).append(' ').append(node.getPosid());
+                all.append(' ').append(node.getCost()).append('\n');
             }
         }
         return all.toString();
@@ -40,7 +45,7 @@ public class OneTagger {
         List<Thread> threads = new ArrayList<>();
         for (int i = 0; i < THREADS; i++) {
             int number = i;
-            Thread thread = new Thread(() -> answers[number] = told(tagger, lines));
+            Thread thread = new Thread(() -> answers[number] = parsed(tagger, lines));
             threads.add(thread);
             thread.start();
         }

@@ -1,5 +1,9 @@
-"""Asks a Groonga server with four threads 4,000 times from four clients at once, and prints the answers in the order of the requests:
-groonga_server.py LINES DATABASE. The table of the lines is indexed by TokenMecab; requests are tokens of lines and searches for their words."""
+"""Sends 4,000 requests to a Groonga server with four threads from four clients at once:
+groonga_server.py LINES DATABASE
+
+The table of the lines is indexed by TokenMecab. Requests are tokens of lines and searches for their
+words. It prints the answers in the order of the requests.
+"""
 import json
 import socket
 import subprocess
@@ -10,90 +14,74 @@ import urllib.error
 import urllib.parse
 import urllib.request
 from pathlib import Path
+from typing import Optional, Union
 
 CLIENTS = 4
 REQUESTS = 4_000
+LINES = 1_000
 SECONDS = 30
 
 
-def free_port():
+def free_port() -> int:
+    """Returns the number of a port that nobody uses."""
     with socket.socket() as one:
         one.bind(("127.0.0.1", 0))
-        return one.getsockname()[1]
+        port: int = one.getsockname()[1]
+        return port
 
 
-def address(port, command, **words):
-    return f"http://127.0.0.1:{port}/d/{command}?{urllib.parse.urlencode(words)}"
+def address(port: int, command: str, **arguments: Union[str, int]) -> str:
+    """Returns the address of a command."""
+    return f"http://127.0.0.1:{port}/d/{command}?{urllib.parse.urlencode(arguments)}"
 
 
-def asked(where, body=None):
-    """What an answer says, without its times."""
-    headers = {"Content-Type": "application/json"}
-    with urllib.request.urlopen(
-        urllib.request.Request(where, data=body, headers=headers), timeout=SECONDS
-    ) as answer:
-        told = json.load(answer)
-    if told[0][0] != 0:
-        raise OSError(f"{where}: {told[0]}")
-    return json.dumps(told[1:], ensure_ascii=False)
+def answer(url: str, body: Optional[bytes] = None) -> str:
+    """Returns the answer to a request, without its times."""
+    request = urllib.request.Request(url, body, {"Content-Type": "application/json"})
+    with urllib.request.urlopen(request, timeout=SECONDS) as response:
+        items = json.load(response)
+    if items[0][0] != 0:
+        raise OSError(f"{url}: {items[0]}")
+    return json.dumps(items[1:], ensure_ascii=False)
 
 
-def wait_for(port):
+def wait_for(port: int) -> None:
+    """Waits until the server answers."""
     for _ in range(SECONDS * 10):
         try:
-            return asked(address(port, "status"))
+            answer(address(port, "status"))
+            return
         except OSError:
             time.sleep(0.1)
     sys.exit("groonga_server: no answer")
 
 
-def fill(port, texts):
-    asked(address(port, "table_create", name="Lines", flags="TABLE_NO_KEY"))
-    asked(
-        address(
-            port,
-            "column_create",
-            table="Lines",
-            name="text",
-            flags="COLUMN_SCALAR",
-            type="ShortText",
-        )
-    )
-    asked(
-        address(
-            port,
+def fill(port: int, texts: list[str]) -> None:
+    """Makes a table of the lines and an index of their words."""
+    text = {"flags": "COLUMN_SCALAR", "type": "ShortText"}
+    terms = {"default_tokenizer": "TokenMecab", "normalizer": "NormalizerAuto"}
+    index = {"flags": "COLUMN_INDEX|WITH_POSITION", "type": "Lines", "source": "text"}
+    for command, arguments in (
+        ("table_create", {"name": "Lines", "flags": "TABLE_NO_KEY"}),
+        ("column_create", {"table": "Lines", "name": "text", **text}),
+        (
             "table_create",
-            name="Terms",
-            flags="TABLE_PAT_KEY",
-            key_type="ShortText",
-            default_tokenizer="TokenMecab",
-            normalizer="NormalizerAuto",
-        )
-    )
-    asked(
-        address(
-            port,
-            "column_create",
-            table="Terms",
-            name="lines_text",
-            flags="COLUMN_INDEX|WITH_POSITION",
-            type="Lines",
-            source="text",
-        )
-    )
-    asked(
-        address(port, "load", table="Lines"),
-        json.dumps([{"text": text} for text in texts]).encode(),
-    )
+            {"name": "Terms", "flags": "TABLE_PAT_KEY", "key_type": "ShortText", **terms},
+        ),
+        ("column_create", {"table": "Terms", "name": "lines_text", **index}),
+    ):
+        answer(address(port, command, **arguments))
+    rows = json.dumps([{"text": text} for text in texts])
+    answer(address(port, "load", table="Lines"), rows.encode())
 
 
-def request(port, number, texts):
+def request(port: int, number: int, texts: list[str]) -> str:
+    """Returns the address of a request: the tokens of a line, or a search for its first word."""
     text = texts[number % len(texts)]
     if number % 2 == 0:
-        return address(
-            port, "tokenize", tokenizer="TokenMecab", string=text, normalizer="NormalizerAuto"
-        )
-    searched = {
+        words = {"tokenizer": "TokenMecab", "string": text, "normalizer": "NormalizerAuto"}
+        return address(port, "tokenize", **words)
+    searched: dict[str, Union[str, int]] = {
         "table": "Lines",
         "match_columns": "text",
         "query_flags": "NONE",
@@ -104,19 +92,25 @@ def request(port, number, texts):
     return address(port, "select", **searched)
 
 
-def ask_all(port, texts):
-    answers = [None] * REQUESTS
+def answer_or_error(url: str) -> str:
+    """Returns the answer to a request, or why there is none."""
+    try:
+        return answer(url)
+    except urllib.error.HTTPError as error:
+        return f"refused: {error.code}"
+    except (OSError, ValueError) as error:
+        return f"no answer: {error}"
 
-    def ask(client):
+
+def all_answers(port: int, texts: list[str]) -> list[str]:
+    """Sends all requests and returns their answers."""
+    answers = [""] * REQUESTS
+
+    def send(client: int) -> None:
         for number in range(client, REQUESTS, CLIENTS):
-            try:
-                answers[number] = asked(request(port, number, texts))
-            except urllib.error.HTTPError as refused:
-                answers[number] = f"refused: {refused.code}"
-            except (OSError, ValueError) as fault:
-                answers[number] = f"no answer: {fault}"
+            answers[number] = answer_or_error(request(port, number, texts))
 
-    threads = [threading.Thread(target=ask, args=(client,)) for client in range(CLIENTS)]
+    threads = [threading.Thread(target=send, args=(client,)) for client in range(CLIENTS)]
     for thread in threads:
         thread.start()
     for thread in threads:
@@ -124,34 +118,25 @@ def ask_all(port, texts):
     return answers
 
 
-def main():
-    texts = [text for text in Path(sys.argv[1]).read_text().splitlines() if text.split()][:1_000]
+def start(port: int, database: str) -> "subprocess.Popen[bytes]":
+    """Makes a database and starts a server over it."""
+    subprocess.run(["groonga", "-n", database, "status"], stdout=subprocess.DEVNULL, check=True)
+    command = ["groonga", "--protocol", "http", "-p", str(port), "--bind-address", "127.0.0.1"]
+    command += ["-t", str(CLIENTS), "-s", database]
+    return subprocess.Popen(command, stdout=subprocess.DEVNULL)
+
+
+def main() -> None:
+    texts = [text for text in Path(sys.argv[1]).read_text().splitlines() if text.split()][:LINES]
     port = free_port()
-    subprocess.run(["groonga", "-n", sys.argv[2], "status"], stdout=subprocess.DEVNULL, check=True)
-    words = [
-        "groonga",
-        "--protocol",
-        "http",
-        "-p",
-        str(port),
-        "--bind-address",
-        "127.0.0.1",
-        "-t",
-        str(CLIENTS),
-        "-s",
-        sys.argv[2],
-    ]
-    server = subprocess.Popen(words, stdout=subprocess.DEVNULL)
+    server = start(port, sys.argv[2])
     try:
         wait_for(port)
         fill(port, texts)
-        answers = ask_all(port, texts)
-        print("\n".join(answers))
-        print(
-            "the server lives"
-            if server.poll() is None
-            else f"the server ended with status {server.returncode}"
-        )
+        print("\n".join(all_answers(port, texts)))
+        status = server.poll()
+        is_alive = "the server lives"
+        print(is_alive if status is None else f"the server ended with status {status}")
     finally:
         server.terminate()
         server.wait()

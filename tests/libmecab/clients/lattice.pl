@@ -1,4 +1,6 @@
-# Prints the lattices that Perl's MeCab makes of each line of a file: the text, and the nodes of the best path at their places.
+# Prints the lattice of each line of a file by Perl's MeCab: lattice.pl LINES
+#
+# It prints the text, and the nodes of the best path at their positions.
 use strict;
 use warnings;
 use MeCab;
@@ -15,7 +17,8 @@ while (my $line = <$lines>) {
     for my $place (0 .. $lattice->size()) {
         for (my $node = $lattice->begin_nodes($place); $node; $node = $node->{bnext}) {
             next unless $node->{isbest};
-            print join("\t", $place, $node->{surface}, $node->{feature}, $node->{posid}, $node->{cost}), "\n";
+            my @fields = ($node->{surface}, $node->{feature}, $node->{posid}, $node->{cost});
+            print join("\t", $place, @fields), "\n";
         }
     }
 }

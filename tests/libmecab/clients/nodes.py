@@ -1,10 +1,13 @@
-"""Prints what a tagger of MeCab's Python module says of each line of a file, as text and as nodes."""
+"""Prints each line of a file by a tagger of MeCab's Python module, as text and as nodes:
+nodes.py LINES"""
 import sys
+from typing import Any
 
 import MeCab
 
 
-def told(node):
+def fields(node: Any) -> str:
+    """Returns the fields of a node, of MeCab's class without types."""
     numbers = [
         node.length,
         node.rlength,
@@ -19,16 +22,17 @@ def told(node):
     return "\t".join([node.surface, node.feature, *map(str, numbers)])
 
 
-def main():
+def main() -> None:
     tagger = MeCab.Tagger("")
     wakati = MeCab.Tagger("-Owakati")
-    for line in open(sys.argv[1], encoding="utf-8", newline="\n"):
-        text = line.rstrip("\n")
-        print(tagger.parse(text), wakati.parse(text), sep="", end="")
-        node = tagger.parseToNode(text)
-        while node:
-            print(told(node))
-            node = node.next
+    with open(sys.argv[1], encoding="utf-8", newline="\n") as lines:
+        for line in lines:
+            text = line.rstrip("\n")
+            print(tagger.parse(text), wakati.parse(text), sep="", end="")
+            node = tagger.parseToNode(text)
+            while node:
+                print(fields(node))
+                node = node.next
 
 
 main()

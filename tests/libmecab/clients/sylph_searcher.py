@@ -1,5 +1,9 @@
-"""Imports letters whose bodies are the lines of a file into a database by sylph-searcher, which cuts them by MeCab's library, and prints the
-indexes that it has made: sylph_searcher.py LINES. The database server is one of its own, which no other machine reaches."""
+"""Imports mails into a database by sylph-searcher, which segments them by MeCab's library:
+sylph_searcher.py LINES
+
+The bodies are the lines of the file. It prints the indexes. The database server is started for
+this, and no other machine reaches it.
+"""
 import os
 import pwd
 import subprocess
@@ -8,13 +12,15 @@ import tempfile
 import time
 from contextlib import contextmanager
 from pathlib import Path
+from typing import Any, Callable, Iterator, Sequence, Union
 
 SERVER = max(Path("/usr/lib/postgresql").glob("*/bin"), default=Path("/nowhere"))
 TABLES = Path("/usr/share/sylph-searcher/sql/create.sql")
-LINES_OF_A_LETTER = 20
+QUERY = "SELECT hdr_subject, body_index FROM msginfo ORDER BY hdr_msgid"
+MAIL_LINES = 20
 # The server does not run as root.
 USER = "postgres" if os.geteuid() == 0 else pwd.getpwuid(os.geteuid()).pw_name
-AS_USER = {"user": USER} if os.geteuid() == 0 else {}
+SERVER_USER = USER if os.geteuid() == 0 else None
 HEAD = """From: a@example.org
 To: b@example.org
 Subject: {0}
@@ -25,84 +31,79 @@ Content-Type: text/plain; charset="UTF-8"
 Content-Transfer-Encoding: 8bit
 
 """
+# Tenths of a second until the server must answer.
+TRIES = 300
+Words = Sequence[Union[str, Path]]
 
 
-def write_letters(lines, folder):
+def write_mails(lines: list[str], folder: Path) -> None:
+    """Writes mails of MAIL_LINES lines each."""
     folder.mkdir()
-    for number, begin in enumerate(range(0, len(lines), LINES_OF_A_LETTER), 1):
-        (folder / str(number)).write_text(
-            HEAD.format(number) + "\n".join(lines[begin : begin + LINES_OF_A_LETTER]) + "\n"
-        )
+    for number, start in enumerate(range(0, len(lines), MAIL_LINES), 1):
+        body = "\n".join(lines[start : start + MAIL_LINES])
+        (folder / str(number)).write_text(f"{HEAD.format(number)}{body}\n")
 
 
-def run(command, **more):
-    done = subprocess.run(
-        list(map(str, command)), stdout=subprocess.PIPE, stderr=subprocess.DEVNULL, **more
-    )
+def run(command: Words, **more: Any) -> bytes:
+    """Runs a command and returns what it prints. Ends this script if it fails."""
+    words = [str(word) for word in command]
+    done = subprocess.run(words, stdout=subprocess.PIPE, stderr=subprocess.DEVNULL, **more)
     if done.returncode != 0:
         sys.exit(f"sylph_searcher: {command[0]}: status {done.returncode}")
-    return done.stdout
+    return bytes(done.stdout)
 
 
 @contextmanager
-def server(folder):
-    """A server in the folder, with an empty database `letters`; what is answered asks it, by words of psql's."""
+def server(folder: Path) -> Iterator[Callable[[Words], bytes]]:
+    """Runs a server with an empty database `letters` in the folder.
+
+    Yields a function that runs psql with some arguments.
+    """
     sockets, data = folder / "sockets", folder / "data"
     for made in (sockets, data):
         made.mkdir()
         os.chown(made, pwd.getpwnam(USER).pw_uid, -1)
-    run(
-        [SERVER / "initdb", "-D", data, "-A", "trust", "-E", "UTF-8", "--locale=C.UTF-8", "-N"],
-        cwd="/",
-        **AS_USER,
-    )
+    locale = ["-A", "trust", "-E", "UTF-8", "--locale=C.UTF-8", "-N"]
+    run([SERVER / "initdb", "-D", data, *locale], cwd="/", user=SERVER_USER)
     words = [SERVER / "postgres", "-D", data, "-k", sockets, "-c", "listen_addresses=", "-F"]
-    process = subprocess.Popen(list(map(str, words)), cwd="/", stderr=subprocess.DEVNULL, **AS_USER)
+    command = [str(word) for word in words]
+    process = subprocess.Popen(command, cwd="/", stderr=subprocess.DEVNULL, user=SERVER_USER)
+    connection: Words = ["-h", sockets, "-U", USER]
     try:
         wait_for(sockets)
-        run([SERVER / "createdb", "-h", sockets, "-U", USER, "letters"])
-        yield lambda *asked: run(
-            [SERVER / "psql", "-q", "-h", sockets, "-U", USER, "-At", *asked, "letters"]
-        )
+        run([SERVER / "createdb", *connection, "letters"])
+        psql: Words = [SERVER / "psql", "-q", *connection, "-At"]
+        yield lambda arguments: run([*psql, *arguments, "letters"])
     finally:
         process.terminate()
         process.wait()
 
 
-def wait_for(sockets):
-    for _ in range(300):
+def wait_for(sockets: Path) -> None:
+    """Waits until the server answers."""
+    for _ in range(TRIES):
         if subprocess.run([SERVER / "pg_isready", "-q", "-h", sockets]).returncode == 0:
             return
         time.sleep(0.1)
     sys.exit("sylph_searcher: the server does not answer")
 
 
-def print_indexes(folder):
-    with server(folder) as ask:
-        ask("-f", TABLES)
-        words = [
-            "-d",
-            "letters",
-            "-h",
-            folder / "sockets",
-            "-U",
-            USER,
-            "--mecab-encoding",
-            "UTF-8",
-            folder / "letters",
-        ]
-        run(["syldbimport", *words], env=dict(os.environ, HOME=str(folder)))
-        sys.stdout.buffer.write(
-            ask("-c", "SELECT hdr_subject, body_index FROM msginfo ORDER BY hdr_msgid")
-        )
+def print_indexes(folder: Path) -> None:
+    """Imports the mails and prints their indexes."""
+    with server(folder) as psql:
+        psql(["-f", TABLES])
+        words: Words = ["-d", "letters", "-h", folder / "sockets", "-U", USER]
+        mails: Words = ["--mecab-encoding", "UTF-8", folder / "letters"]
+        run(["syldbimport", *words, *mails], env={**os.environ, "HOME": str(folder)})
+        sys.stdout.buffer.write(psql(["-c", QUERY]))
 
 
-def main():
+def main() -> None:
     lines = Path(sys.argv[1]).read_text().splitlines()
     with tempfile.TemporaryDirectory() as made:
         folder = Path(made)
         folder.chmod(0o755)
-        write_letters(lines, folder / "letters")
+        write_mails(lines, folder / "letters")
         print_indexes(folder)
 
 
