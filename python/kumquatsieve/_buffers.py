@@ -1,11 +1,20 @@
 """Where the library writes what it answers to a cutter: memory that is used again from line to line."""
+from __future__ import annotations
+
 import struct
 import sys
 from ctypes import byref, c_char, c_int64, c_size_t, c_uint64, c_void_p, sizeof
-from typing import Any, Optional, Tuple
 
 from ._fault import fault_of, raise_fault
 from ._library import LIBRARY, OK, SHORT_BUFFER, NodeRecord, Record, ready_size
+
+TYPE_CHECKING = False
+if TYPE_CHECKING:
+    from typing import Any, Optional, Tuple
+
+    # A buffer's address and the count of its items, as a call takes them, its bytes, and their
+    # length.
+    Buffer = Tuple[Any, Any, Any, int]
 
 # A record's fields, as `Record` has them, and those of a node's; what is missing to the next record is left out.
 FIELDS = struct.Struct("@NNNNIHHhBBqN0q")
@@ -18,9 +27,6 @@ FIRST = ready_size(0)
 
 # Bytes from an address on, of which a part is taken: an array of each length would be a type of its own, which ctypes keeps.
 ALL = c_char * sys.maxsize
-
-# A buffer as a call is given it, its address and how many it may have; and its bytes, and how many they are.
-Buffer = Tuple[Any, Any, Any, int]
 
 
 def bytes_at(address: int, length: int) -> memoryview:

@@ -1,18 +1,28 @@
 """Cuts lines into words."""
+from __future__ import annotations
+
 import os
 from operator import index
-from typing import Any, Dict, List, Optional, Sequence, Tuple, Type, Union
 
 from ._fields import names_beside, numbered, with_common
-from ._formats import NODE, Format, texts_of
-from ._handle import GROUPING, SURFACES, WAKATI, WORDS, Answers, Handle
-from ._images import Image, Origin, default, origin_of, path_of
-from ._lattice import TAKEN, Lattice, lattice_of
-from ._lines import Lines, many_at_once, one_by_one
+from ._format_texts import NODE, SURFACES, WAKATI, WORDS, texts_of
+from ._handle import GROUPING, Handle
+from ._images import default, is_image, origin_of, path_of
 from ._loaded import LOADED
-from ._sources import TEXTS, Source, checked
 from ._texts import encoded, line_of
-from ._words import Words, words_of
+from ._words import TAKEN, words_of
+
+TYPE_CHECKING = False
+if TYPE_CHECKING:
+    from typing import Any, Dict, List, Optional, Sequence, Tuple, Type, Union
+
+    from ._formats import Format
+    from ._handle import Answers
+    from ._images import Image, Origin
+    from ._lattice import Lattice
+    from ._lines import Lines
+    from ._sources import Source
+    from ._words import Words
 
 # What the calls of a handle are, which Python looks for in a class each time.
 TOLD, LATTICED, SURFACES_OF, PRINTED = Handle.told, Handle.latticed, Handle.surfaces, Handle.printed
@@ -52,7 +62,7 @@ class Cutter:
         *,
         test_digest: bool = False,
     ) -> None:
-        if isinstance(users, (*TEXTS, os.PathLike)):
+        if is_image(users):
             raise TypeError("users are several images, in a list")
         if isinstance(fields, (str, bytes)):
             raise TypeError("fields are several names, in a list")
@@ -122,6 +132,8 @@ class Cutter:
 
     def lattice(self, line: str) -> Lattice:
         """The lattice of a line, for a caller that asks why it was cut so. It is made for this call alone, so no other call takes longer for it."""
+        from ._lattice import lattice_of
+
         text = line_of(line)
         return lattice_of(text, self._handles.call(LATTICED, text, None), self._names)
 
@@ -144,7 +156,7 @@ class Cutter:
         """The text of a line in another format than the cutter's, whose parts are those of `Format`. Without `node` a line for each word,
         with its feature."""
         return self._handles.call(
-            PRINTED, encoded(line), texts_of(Format(NODE if node is None else node, unk, bos, eos))
+            PRINTED, encoded(line), texts_of((NODE if node is None else node, unk, bos, eos))
         )
 
     def lines(self, source: Source, errors: str = "strict") -> Lines[Words]:
@@ -153,17 +165,23 @@ class Cutter:
         A fault says the line's number in `place`. What is no UTF-8 is refused; with errors="replace" it is U+FFFD, as Python's decoder has
         it, and `replaced` of the answer counts them.
         """
-        return Lines(errors, one_by_one(checked(source), self._words))
+        from ._lines import lines_one_by_one
+
+        return lines_one_by_one(errors, source, self._words)
 
     def wakati_lines(self, source: Source, errors: str = "strict") -> Lines[str]:
         """The surfaces of each line with a blank between two, as `lines` has it. About a megabyte is read at once, and cut by one call of
         the library, during which other threads run."""
-        return Lines(errors, many_at_once(checked(source), self._joined))
+        from ._lines import lines_at_once
+
+        return lines_at_once(errors, source, self._joined)
 
     def parse_lines(self, source: Source, errors: str = "strict") -> Lines[str]:
         """The text of each line in the cutter's format, as `wakati_lines` has it. Joined it is what `jseg` prints for the source, except for
         carriage returns at line ends, which `jseg` takes for characters."""
-        return Lines(errors, many_at_once(checked(source), self._printed_lines))
+        from ._lines import lines_at_once
+
+        return lines_at_once(errors, source, self._printed_lines)
 
     def _joined(self, text: bytes) -> Answers:
         return self._handles.call(Handle.joined_lines, text, WAKATI)
@@ -182,7 +200,7 @@ def names_of(image: Image, fields: Optional[Sequence[Optional[str]]]) -> Dict[st
 def again(kind: Type[Cutter], origin: Origin, grouping: int, state: Dict[str, Any]) -> Cutter:
     """The cutter that was pickled."""
     cutter = kind.__new__(kind)
-    cutter._origin = Origin(*origin)
+    cutter._origin = origin
     cutter._handles = LOADED.again(cutter._origin)
     cutter.__dict__.update(state)
     cutter.set_grouping(grouping)

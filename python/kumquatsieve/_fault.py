@@ -1,8 +1,13 @@
 """Faults, as exceptions."""
+from __future__ import annotations
+
 import ctypes
-from typing import Optional, Tuple
 
 from ._library import LIBRARY, MEMORY
+
+TYPE_CHECKING = False
+if TYPE_CHECKING:
+    from typing import Optional, Tuple
 
 # What to do instead, by the code.
 ADVICE = {"K1": "this is more than one line; Cutter.lines, wakati_lines and parse_lines take many"}

@@ -1,14 +1,17 @@
 """The fields of a feature, and the names that a dictionary gives them."""
+from __future__ import annotations
+
 import os
-import re
 from errno import ENAMETOOLONG, ENOENT, ENOTDIR
-from typing import Dict, Iterable, List, Optional, Union
 
 from ._images import ENDING
 
+TYPE_CHECKING = False
+if TYPE_CHECKING:
+    from typing import Dict, Iterable, List, Optional, Union
+
 # A field with the blanks before it: in quotes, which are doubled within, or as it stands. What is behind a closing quote is no part of it.
-FIELD = re.compile(r'[ \t]*(?:"((?:[^"]|"")*)"?[^,]*|([^,]*))')
-NOT_PLAIN = re.compile(r'["\t ]')
+FIELD = r'[ \t]*(?:"((?:[^"]|"")*)"?[^,]*|([^,]*))'
 # The first line of a file of names that belongs to one image has this and the image's checksum,
 # which is the last bytes of the image.
 CHECKSUM = "; image-sha256 "
@@ -28,11 +31,14 @@ COMMON = {
 
 def split(feature: str) -> List[str]:
     """The fields of a feature, by MeCab's quoting."""
-    if not NOT_PLAIN.search(feature):
+    if '"' not in feature and " " not in feature and "\t" not in feature:
         return feature.split(",")
-    fields, at = [], 0
+    # Most features are plain, and an import of it takes as long as that of the whole module.
+    import re
+
+    fields, at, field = [], 0, re.compile(FIELD)
     while at <= len(feature):
-        found = FIELD.match(feature, at)
+        found = field.match(feature, at)
         assert found, "a field may be empty"
         quoted, plain = found.groups()
         fields.append(plain if quoted is None else quoted.replace('""', '"'))

@@ -1,40 +1,39 @@
 """One cutter of the library's."""
+from __future__ import annotations
+
 import os
 from contextvars import Context
 from ctypes import addressof, byref, c_size_t, c_uint32, c_uint64
 from errno import EINTR
-from functools import partial
-from typing import Any, Dict, Iterator, List, Optional, Tuple
 
 from ._buffers import FIELDS, NODE_FIELDS, Buffers
 from ._fault import Fault, fault_of, raise_fault
 from ._library import FILE, LIBRARY, OK, PARTS, TEST_DIGEST, Slot, ready_size
+from ._format_texts import DEFAULT
 from ._texts import LINE_FEED, lines_of, without_end
 
-Texts = Tuple[bytes, bytes, bytes, bytes]
+TYPE_CHECKING = False
+if TYPE_CHECKING:
+    from typing import Any, Callable, Dict, Iterator, List, Optional, Tuple
 
-# What the library tells of a line: the cost of its path, the records of its words or of its nodes, and the surface and the feature of each.
-Told = Tuple[int, bytes, List[str]]
+    from ._format_texts import Texts
 
-# What each line of a text gave, up to the first that was refused, and why that was.
-Answers = Tuple[List[str], Optional[Exception]]
+    # Of a line the cost of its path, the records of its words or of its nodes, and the surface and
+    # the feature of each.
+    Told = Tuple[int, bytes, List[str]]
+
+    # The output of each line of a text up to the first invalid one, and the error of that one.
+    Answers = Tuple[List[str], Optional[Exception]]
 
 GROUPING = 24
 
 # How many nodes of a lattice are guessed for each byte of the line. Where they are more, the lattice is made twice.
 NODES = 3
 
-DEFAULT: Texts = (b"%m\\t%H\\n", b"%m\\t%H\\n", b"", b"EOS\\n")
-WAKATI: Texts = (b"%m ", b"%m ", b"", b"\\n")
-
 # The codes with which the library sets the number of an image's fault, the place in a format, and the place in a line.
 NUMBERED = {0x4C03, 0x4C04, 0x4C05, 0x4C06, 0x4C07, 0x4F02, 0x4F03}
 IN_FORMAT = {0x5001, 0x5002, 0x5003, 0x4703}
 IN_LINE = {0x4B01, 0x4703, 0x4704}
-
-# What tells all words of a line in one call: a line for each surface, or for each surface and feature. So an empty text is behind the last one.
-SURFACES: Texts = (b"%m\\n", b"%m\\n", b"", b"")
-WORDS: Texts = (b"%m\\n%H\\n", b"%m\\n%H\\n", b"", b"")
 
 # What each line prints first, where many are printed at once: a code point that Unicode keeps for a program's own use.
 MARK = "\uffff"
@@ -50,9 +49,10 @@ CUT, CUT_LINES, PRINT, FEATURE = (
 )
 
 
-def feature(number: Any, cutter: Any, *room: Any) -> int:
-    """The library's call for the feature of a word, with its number first."""
-    return int(FEATURE(cutter, number, *room))
+def feature_of(number: int) -> Callable[..., int]:
+    """The library's call for the feature of a word, with the word's number filled in."""
+    ready = ready_size(number)
+    return lambda cutter, *room: int(FEATURE(cutter, ready, *room))
 
 
 def check_image(code: int, number: int) -> None:
@@ -164,7 +164,7 @@ class Handle:
         """The same where a line feed stands in a feature."""
         for number, (_, start, end, *_) in enumerate(FIELDS.iter_unpack(records)):
             yield line[start:end].decode()
-            yield self._buffers.text_of(partial(feature, ready_size(number)), self._at)
+            yield self._buffers.text_of(feature_of(number), self._at)
 
     def latticed(self, line: bytes, _: object) -> Told:
         """What the library says of the nodes of a line's lattice."""

@@ -1,18 +1,23 @@
 """Handles for the threads that call one cutter."""
+from __future__ import annotations
+
 import os
 import sys
 import time
 import weakref
 from contextvars import copy_context
-from types import FrameType
-from typing import Callable, List, Optional, Set, TypeVar
 
 from ._fault import Fault
 from ._handle import GROUPING, IDLE, Handle
 
-A = TypeVar("A")
-B = TypeVar("B")
-T = TypeVar("T")
+TYPE_CHECKING = False
+if TYPE_CHECKING:
+    from types import FrameType
+    from typing import Callable, List, Optional, Set, TypeVar
+
+    A = TypeVar("A")
+    B = TypeVar("B")
+    T = TypeVar("T")
 
 # How often `close` looks whether the calls of other threads have ended, in seconds.
 LOOK = 0.001

@@ -1,13 +1,23 @@
 """Images by their paths, by their names, and in memory."""
-import mmap
+from __future__ import annotations
+
 import os
 import sys
 from ctypes import addressof, c_char, c_size_t, create_string_buffer
-from typing import Any, Callable, Dict, Iterator, List, NamedTuple, Optional, Sequence, Tuple, Union
 
 from ._library import LIBRARY, MEMORY, OK, SHORT_BUFFER
 
-Image = Union[str, "os.PathLike[str]", bytes, bytearray, memoryview, mmap.mmap]
+TYPE_CHECKING = False
+if TYPE_CHECKING:
+    import mmap
+    from typing import Any, Callable, Dict, Iterator, List, Optional, Sequence, Tuple, Union
+
+    Image = Union[str, os.PathLike[str], bytes, bytearray, memoryview, mmap.mmap]
+
+    # What a cutter was made of: the system image, the users' images, and whether their checksums
+    # were tested. Each is a path, or the bare name of an installed image, which may have another
+    # path on another machine.
+    Origin = Tuple[str, Tuple[str, ...], bool]
 
 VARIABLE = "KUMQUATSIEVE_DICTIONARY"
 IMAGE = "kumquatsieve.img"
@@ -25,12 +35,22 @@ SYSTEM = bytes(4)
 def prefixes() -> List[str]:
     """Returns the prefixes whose image directories are searched: of the `jseg` that a shell runs, of
     this Python, /usr/local and /usr."""
-    # It is imported here, because a program that names a path needs none of it.
-    from shutil import which
-
-    jseg = which("jseg")
+    jseg = program_of_shell("jseg")
     own = [os.path.dirname(os.path.dirname(os.path.realpath(jseg)))] if jseg else []
     return list(dict.fromkeys([*own, sys.prefix, "/usr/local", "/usr"]))
+
+
+def program_of_shell(name: str) -> Optional[str]:
+    """Returns the path of a program, as a shell finds it.
+
+    `shutil.which` does the same, but the import of `shutil` takes longer than most loads.
+    """
+    search_path = os.environ.get("PATH", os.defpath)
+    for folder in search_path.split(os.pathsep) if search_path else ():
+        path = os.path.join(folder, name)
+        if os.access(path, os.X_OK) and not os.path.isdir(path):
+            return path
+    return None
 
 
 def searched() -> Iterator[Optional[str]]:
@@ -132,22 +152,16 @@ def default() -> str:
     )
 
 
-class Origin(NamedTuple):
-    """What a cutter was made of: each image by a path, or by the bare name of an installed one, which another machine may have elsewhere; and
-    whether their digests were tested."""
-
-    image: str
-    users: Tuple[str, ...]
-    test_digest: bool
-
-    def paths(self) -> Tuple[str, ...]:
-        return tuple(map(path_of, (self.image, *self.users)))
+def paths_of(origin: Origin) -> Tuple[str, ...]:
+    """The paths of the images that a cutter was made of."""
+    image, users, _ = origin
+    return tuple(map(path_of, (image, *users)))
 
 
 def origin_of(image: Image, users: Sequence[Image], test_digest: bool) -> Optional[Origin]:
     """What a cutter of these images is made of; None where one is in memory."""
     names = [name_of(one) for one in (image, *users) if isinstance(one, (str, os.PathLike))]
-    return Origin(names[0], tuple(names[1:]), test_digest) if len(names) == 1 + len(users) else None
+    return (names[0], tuple(names[1:]), test_digest) if len(names) == 1 + len(users) else None
 
 
 def name_of(image: Union[str, "os.PathLike[str]"]) -> str:
@@ -155,6 +169,17 @@ def name_of(image: Union[str, "os.PathLike[str]"]) -> str:
     name = os.fspath(image)
     is_path = "/" in name or written(LIBRARY.find_image, name, None) == os.fsencode(name) + b"\0"
     return os.path.abspath(name) if name and is_path else name
+
+
+def is_image(value: object) -> bool:
+    """Returns whether a value is one image, and not a list of them.
+
+    It can be an `mmap` only if that module was imported.
+    """
+    mmap = sys.modules.get("mmap")
+    return isinstance(value, (str, bytes, bytearray, memoryview, os.PathLike)) or (
+        mmap is not None and isinstance(value, mmap.mmap)
+    )
 
 
 def hand(

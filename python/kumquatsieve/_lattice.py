@@ -2,13 +2,15 @@
 from bisect import bisect_left
 from itertools import count
 from operator import itemgetter
-from typing import Any, Dict, Iterator, List, NamedTuple, Optional, Tuple
+from typing import Any, Dict, Iterator, List, NamedTuple, Optional, TYPE_CHECKING, Tuple
 
 from ._buffers import NODE_FIELDS
 from ._dot import dot_of
-from ._handle import Told
 from ._shown import html_of, table_of
 from ._words import Line, Word, Words, of_record
+
+if TYPE_CHECKING:
+    from ._handle import Told
 
 # The program that draws, and for how many seconds it may draw a lattice that is shown. A larger one is shown as a table.
 DOT = "dot"
@@ -84,10 +86,6 @@ class Node(Word):
             else f"lost by {self.lost}"
         )
         return f"<Node {self.surface} {self.feature} {self.start}:{self.end} cost {self.cost}{'' if self.known else ' unknown'} {lost}>"
-
-
-# Names that no field of a dictionary may have.
-TAKEN = frozenset(name for name in dir(Node) if not name.startswith("_"))
 
 
 class Rival(NamedTuple):
@@ -222,7 +220,7 @@ def drawn(graph: str) -> Optional[str]:
     return svg[svg.index("<svg") :] if done.returncode == 0 and "<svg" in svg else None
 
 
-def lattice_of(text: bytes, told_nodes: Told, names: Dict[str, int]) -> Lattice:
+def lattice_of(text: bytes, told_nodes: "Told", names: Dict[str, int]) -> Lattice:
     """The lattice of a line, of what a handle told of it."""
     total, records, texts = told_nodes
     line, each = NodesLine(text, records, names, total), iter(texts)

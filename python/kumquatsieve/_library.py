@@ -1,9 +1,14 @@
 """The shared library, and its calls."""
+from __future__ import annotations
+
 import ctypes
 import os
 import sys
 from types import SimpleNamespace
-from typing import Any, Callable, Dict, List, Optional
+
+TYPE_CHECKING = False
+if TYPE_CHECKING:
+    from typing import Any, Callable, Dict, List, Optional
 
 NAME = "libkumquatsieve.so.0"
 VARIABLE = "KUMQUATSIEVE_LIBRARY"

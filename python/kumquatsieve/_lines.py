@@ -1,11 +1,13 @@
 """What a cutter answers to many lines."""
 from itertools import chain
-from typing import Callable, Generic, Iterator, List, TypeVar
+from typing import TYPE_CHECKING, Callable, Generic, Iterator, List, TypeVar
 
 from ._fault import Fault
-from ._handle import Answers
-from ._sources import Source, lines_as_they_come, pieces
+from ._sources import Source, checked, lines_as_they_come, pieces
 from ._texts import Encoder
+
+if TYPE_CHECKING:
+    from ._handle import Answers
 
 T = TypeVar("T")
 
@@ -44,7 +46,7 @@ def one_by_one(source: Source, answer: Callable[[bytes], T]) -> Callable[[Encode
 
 
 def many_at_once(
-    source: Source, answer: Callable[[bytes], Answers]
+    source: Source, answer: "Callable[[bytes], Answers]"
 ) -> Callable[[Encoder], Iterator[str]]:
     """The answers to about a megabyte of lines at once. Those before a fault come before it."""
 
@@ -58,6 +60,16 @@ def many_at_once(
                 raise placed(fault, number + 1) from None
 
     return lambda encoder: chain.from_iterable(batches(encoder))
+
+
+def lines_one_by_one(errors: str, source: Source, answer: Callable[[bytes], T]) -> Lines[T]:
+    """What a cutter answers to each line of a source, as soon as the line is there."""
+    return Lines(errors, one_by_one(checked(source), answer))
+
+
+def lines_at_once(errors: str, source: Source, answer: "Callable[[bytes], Answers]") -> Lines[str]:
+    """What a cutter answers to each line of a source, of which it gets a megabyte at once."""
+    return Lines(errors, many_at_once(checked(source), answer))
 
 
 def placed(fault: Exception, number: int) -> Exception:

@@ -1,24 +1,27 @@
 """Dictionaries that this process has, for the cutters that come to it from another one."""
+from __future__ import annotations
+
 import os
-import threading
 import weakref
-from typing import Dict, NamedTuple, Optional, Sequence, Tuple
 
 from ._handle import Handle
 from ._handles import Handles
-from ._images import Image, Origin, hand
+from ._images import hand, paths_of
 
+TYPE_CHECKING = False
+if TYPE_CHECKING:
+    import threading
+    from typing import Dict, Optional, Sequence, Tuple
 
-class Key(NamedTuple):
-    """The files of an origin as they are now: another file of the same path is another image."""
+    from ._images import Image, Origin
 
-    origin: Origin
-    files: Tuple[Tuple[int, ...], ...]
+    # The files of an origin as they are now: another file of the same path is another image.
+    Key = Tuple[Origin, Tuple[Tuple[int, ...], ...]]
 
 
 def key_of(origin: Origin) -> Key:
-    stats = map(os.stat, origin.paths())
-    return Key(origin, tuple(map(identity_of, stats)))
+    stats = map(os.stat, paths_of(origin))
+    return origin, tuple(map(identity_of, stats))
 
 
 def identity_of(stat: os.stat_result) -> Tuple[int, ...]:
@@ -50,7 +53,15 @@ class Loaded:
 
     def begin(self) -> None:
         """Also in the child of a fork, where the thread that had the lock may be none of its own."""
-        self._lock = threading.RLock()
+        self._locks: Dict[str, threading.RLock] = {}
+
+    def _lock(self) -> threading.RLock:
+        """Returns the lock. It is made at the first call, since most programs need none, and the
+        import of `threading` takes a millisecond. If two threads make one, the first one is kept.
+        """
+        from threading import RLock
+
+        return self._locks.setdefault("again", RLock())
 
     def new(
         self, origin: Optional[Origin], image: Image, users: Sequence[Image], test_digest: bool
@@ -71,7 +82,7 @@ class Loaded:
     def again(self, origin: Origin) -> Handles:
         """What a cutter of this origin cuts with that came from another process."""
         key = key_of(origin)
-        with self._lock:
+        with self._lock():
             there, kept = self._kept.get(origin, (None, None))
             if kept is None or there != key:
                 kept = self._shared(key) or Handles(load(*origin))

@@ -1,8 +1,12 @@
 """Texts and lines in UTF-8, as the library takes them."""
-import re
-from typing import Any, List
+from __future__ import annotations
 
-SURROGATE = re.compile("[\ud800-\udfff]")
+
+TYPE_CHECKING = False
+if TYPE_CHECKING:
+    from typing import Any, List
+
+SURROGATE = "[\ud800-\udfff]"
 ERRORS = ("strict", "replace")
 # A caller's own kind of str may have another method of this name.
 ENCODE = str.encode
@@ -62,7 +66,9 @@ class Encoder:
     def of_text(self, text: str) -> bytes:
         """A text, or a part of one."""
         if self._replaces:
-            text, count = SURROGATE.subn("\ufffd", text)
+            import re
+
+            text, count = re.subn(SURROGATE, "\ufffd", text)
             self.replaced += count
         return encoded(text)
 

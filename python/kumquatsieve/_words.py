@@ -1,11 +1,16 @@
 """Words of a line, by their attributes."""
+from __future__ import annotations
+
 from itertools import count
-from typing import Any, Dict, Iterable, List, Optional, Tuple
 
 from ._buffers import FIELDS
 from ._fields import split
-from ._handle import Told
-from ._shown import html_of, table_of
+
+TYPE_CHECKING = False
+if TYPE_CHECKING:
+    from typing import Any, Dict, Iterable, List, Optional, Tuple
+
+    from ._handle import Told
 
 # What a table shows for a reading: the first of these names of fields that a dictionary has. UniDic's `kana` is that of the word as it stands.
 READINGS = ("kana", "reading", "pron")
@@ -128,7 +133,16 @@ class Word:
         return f"<Word {self.surface} {self.feature} {self.start}:{self.end} cost {self.cost}{'' if self.known else ' unknown'}>"
 
 
-class Words(List[Word]):
+# Names that no field of a dictionary may have: the attributes of a word, and those of a node.
+TAKEN = frozenset(name for name in dir(Word) if not name.startswith("_")) | {
+    "byte_place",
+    "through",
+    "lost",
+    "best",
+}
+
+
+class Words(list[Word]):
     """The words of a line, a list; `total` is the cost of their path. Shown, it is a table."""
 
     __slots__ = ("total",)
@@ -148,9 +162,13 @@ class Words(List[Word]):
         ]
 
     def __repr__(self) -> str:
+        from ._shown import table_of
+
         return table_of(*self._columns())
 
     def _repr_html_(self) -> str:
+        from ._shown import html_of
+
         return html_of(*self._columns())
 
 

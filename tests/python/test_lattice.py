@@ -462,3 +462,9 @@ def test_a_notebook_shows_a_drawing_or_a_table(system, monkeypatch, tmp_path):
             in lattice._repr_html_()
         )
         assert "&lt;" in lattice._repr_html_() and "<b>" not in lattice._repr_html_()
+
+
+@pytest.mark.parametrize("name", [name for name in dir(Node) if not name.startswith("_")])
+def test_no_attribute_of_a_node_is_the_name_of_a_field(system, name):
+    with pytest.raises(ValueError, match="can't be the name of field 0"):
+        Cutter(system, fields=[name])

@@ -30,6 +30,37 @@ def test_each_name_that_is_exported_is_there_and_says_what_it_is():
         assert getattr(kumquatsieve, name).__doc__
 
 
+# Modules whose import takes longer than the load of a tested image.
+SLOW = {"collections", "enum", "functools", "html", "mmap", "re", "shutil", "threading", "typing"}
+# Prints which of them a program imports that segments one line.
+ONE_LINE = """
+import sys
+before = set(sys.modules)
+from kumquatsieve import Cutter
+assert [word.surface for word in Cutter(sys.argv[1]).cut("もも")] == ["もも"]
+print(*sorted(set(sys.modules) - before))
+"""
+
+
+def test_a_program_that_segments_one_line_imports_no_slow_module(system):
+    words = [sys.executable, "-c", ONE_LINE, system]
+    done = subprocess.run(words, capture_output=True, text=True, check=True)
+    assert SLOW.isdisjoint(done.stdout.split())
+
+
+def test_all_names_are_listed_before_they_are_imported():
+    code = "import kumquatsieve; print({*kumquatsieve.__all__} <= {*dir(kumquatsieve)})"
+    done = subprocess.run([sys.executable, "-c", code], capture_output=True, text=True, check=True)
+    assert done.stdout == "True\n"
+
+
+def test_a_name_that_the_module_does_not_have():
+    with pytest.raises(AttributeError, match="module 'kumquatsieve' has no attribute 'Tagger'"):
+        kumquatsieve.Tagger
+    with pytest.raises(ImportError):
+        from kumquatsieve import Tagger  # noqa: F401
+
+
 def test_a_library_that_is_not_there_is_named():
     code = "import os; os.environ['KUMQUATSIEVE_LIBRARY'] = 'none.so'; import kumquatsieve"
     done = subprocess.run([sys.executable, "-c", code], capture_output=True, text=True)
