@@ -1,24 +1,25 @@
-#!/usr/bin/env python3
-"""Measures how long `wakati_lines` of the Python module takes for a text in several threads, and in one. Each thread cuts a part of the text, with a
-share of one cutter.
+"""`wakati_lines` of the Python module in several threads, beside one thread.
 
-    bench/threads.py [--image IMG] [--threads N] [--megabytes N] [--rounds N] [--most RATIO] [--instructions] [TEXT..]
+Each thread segments a part of the text, with a share of one Cutter. The text consists of the files,
+repeated until it has so many megabytes; lines that are not UTF-8 are left out. Without a file it
+consists of the Japanese manual pages (Debian: manpages-ja). Without an image it is segmented with
+the sample's. One thread and several take turns, --rounds times. A row has the least and the median
+of the elapsed seconds, the least of the CPU seconds, the ratio of the least elapsed seconds to
+those of one thread, and the spread of the elapsed seconds, from the least to the most, in parts of
+the least. After the rows follows what else the machine did. If a spread is above a tenth, or other
+work took more than a twentieth of the processors, the ratio is called uncertain.
 
-The text is made of the files, over and over until it has so many megabytes; a line that is not UTF-8 is left out. Without a file it is made of the
-Japanese manual pages (Debian: manpages-ja). Without an image it is cut with the sample's. One thread and several take turns, `--rounds` times. A row
-has the least and the median of the seconds that passed, the least of the processors' seconds, the ratio of the least that passed to that of one
-thread, and the spread of the seconds that passed, from the least to the most, in parts of the least. After them it is printed what else the machine
-did. Where a spread is above a tenth, or other work took more than a twentieth of the processors, the ratio is called uncertain.
+The status is 1 if the lines differ, or if the ratio is above --most: 0.4 is what four threads on
+four idle processors take at most. With --most the status is 77 if the ratio is uncertain, because
+nothing was decided then.
 
-The status is 1 where the lines differ, or where the ratio is above `--most`: 0.4 is what four threads on four idle processors take at most. With
-`--most` the status is 77 where the ratio is uncertain, since nothing was decided then.
+With --instructions the instructions of one thread over 1 MB are counted instead, by valgrind, and
+those of them that are in the library's own code. Other threads run during these, and none runs
+during the rest, which are Python's. The counts are the same whatever else the machine does.
 
-With --instructions it counts instead, by valgrind, the instructions of one thread over 1 MB, and those of them that are in the library's own code.
-Other threads run meanwhile; while the rest run, which are Python's, none does. The counts are the same whatever else the
-machine does.
-
-The library is the one that KUMQUATSIEVE_LIBRARY names. Without that it is built of the archive that `rt lib` left in crates/cutter_c/out. Needs:
-gcc, for the sample's image crates/dictc/out/dictc, and for instructions valgrind. Where one is not there the status is 77, and nothing was measured.
+The library is the one that KUMQUATSIEVE_LIBRARY names. Without the variable it is built from
+crates/cutter_c/out/libcutter_c.a, which needs gcc. The sample's image needs crates/dictc/out/dictc,
+and instructions need valgrind. If one is missing the status is 77, and nothing was measured.
 """
 import argparse
 import os
@@ -31,167 +32,164 @@ import time
 from collections import deque
 from concurrent.futures import ThreadPoolExecutor
 from pathlib import Path
+from typing import TYPE_CHECKING, Callable, Iterator, List, NamedTuple, Sequence, TypeVar
 
-sys.dont_write_bytecode = True
-from clients.counts import instructions_in  # noqa: E402
-from clients.host import Host  # noqa: E402
-from clients.library import LEFT_OUT, build, leave_out  # noqa: E402
+from compare_with_mecab.dictionaries import Command
+from compare_with_mecab.texts import common_lines, manual_pages
+from measure.counts import instructions_in
+from measure.host import Host
+from measure.python_module import LIBRARY, end_unmeasured, use_module
+from measure.rows import MB
+from measure.runs import CERTAIN, NO_TEXT
+from measure.texts import whole_lines, written
+from support.running import LEFT_OUT, SAMPLE, TOP, program
 
-TOP = Path(__file__).resolve().parents[1]
-sys.path.insert(0, str(TOP / "tests"))
-from compare_with_mecab.texts import common_lines, manual_pages  # noqa: E402
+if TYPE_CHECKING:
+    from kumquatsieve import Cutter
 
-SAMPLE = TOP / "examples" / "sample"
-DICTC = TOP / "crates" / "dictc" / "out" / "dictc"
-NAME = "bench-threads"
-MB = 1_000_000
-# The spread of a ratio that is sure, and how much of the processors other work may take meanwhile.
-SURE, QUIET = 0.1, 0.05
+T = TypeVar("T")
+
+# The largest share of the processors that other work takes while a ratio is certain.
+QUIET = 0.05
 
 
-def corpus(texts, size):
-    """The lines of the texts that are UTF-8, over and over."""
-    lines = (
-        b"".join(path.read_bytes() for path in texts)
-        or manual_pages()
-        or (SAMPLE / "text.txt").read_bytes()
-    )
+class Seconds(NamedTuple):
+    """What one run took: elapsed seconds, and the CPU seconds of all threads."""
+
+    elapsed: float
+    cpu: float
+
+
+def corpus(texts: Sequence[Path], size: int) -> bytes:
+    """Returns about `size` bytes: the lines of the texts that are UTF-8, repeated."""
+    given = b"".join(path.read_bytes() for path in texts)
+    lines = given or manual_pages() or (SAMPLE / "text.txt").read_bytes()
     lines = common_lines(lines).rstrip(b"\n") + b"\n"
     return lines * max(1, round(size / len(lines)))
 
 
-def first_of(text, size):
-    """The lines of a text up to a size."""
-    return text[: text.rfind(b"\n", 0, size) + 1]
-
-
-def parts_of(text, count):
-    """So many parts of a text, of about as many bytes each, that end at line ends."""
+def parts_of(text: bytes, count: int) -> List[bytes]:
+    """Splits a text into `count` parts of about the same length, which end at line ends."""
     ends = [text.find(b"\n", len(text) * number // count) + 1 for number in range(1, count)]
-    return [text[begin:end] for begin, end in zip([0, *ends], [*ends, len(text)])]
+    return [text[start:end] for start, end in zip([0, *ends], [*ends, len(text)])]
 
 
-def sample_image(folder):
-    if not DICTC.exists():
-        leave_out(NAME, DICTC)
-    sources = [
-        word for name in ("matrix", "char", "unk") for word in (f"--{name}", SAMPLE / f"{name}.def")
-    ]
-    words = [DICTC, "system", *sources, "--out", folder / "sample.img", SAMPLE / "lexicon.csv"]
+def sample_image(folder: Path) -> Path:
+    dictc = program("dictc")
+    if not dictc.exists():
+        end_unmeasured(dictc)
+    image, words = folder / "sample.img", [str(dictc), "system"]
+    for name in ("matrix", "char", "unk"):
+        words += [f"--{name}", str(SAMPLE / f"{name}.def")]
+    words += ["--out", str(image), str(SAMPLE / "lexicon.csv")]
     subprocess.run(words, check=True, stdout=subprocess.DEVNULL)
-    return folder / "sample.img"
+    return image
 
 
-def in_threads(cutter, parts, count, take):
-    """What is taken of the lines of each part, by so many threads."""
+def in_threads(
+    cutter: "Cutter", parts: List[bytes], count: int, take: Callable[[Iterator[str]], T]
+) -> List[T]:
+    """Segments each part by one of `count` threads, and returns what `take` makes of its lines."""
     with ThreadPoolExecutor(count) as threads:
         return list(threads.map(lambda part: take(cutter.share().wakati_lines(part)), parts))
 
 
-def timed(cutter, parts, count):
-    """The seconds that passed, and those of the processors for all threads."""
-    began, used = time.monotonic(), time.process_time()
-    in_threads(cutter, parts, count, deque(maxlen=0).extend)
-    return time.monotonic() - began, time.process_time() - used
+def time_threads(cutter: "Cutter", parts: List[bytes], count: int) -> Seconds:
+    start, used = time.monotonic(), time.process_time()
+    in_threads(cutter, parts, count, deque[str](maxlen=0).extend)
+    return Seconds(time.monotonic() - start, time.process_time() - used)
 
 
-def spread_of(seconds):
-    """From the least to the most of the seconds that passed, in parts of the least."""
-    passed = [each for each, _ in seconds]
-    return (max(passed) - min(passed)) / min(passed)
+def spread_of(runs: Sequence[Seconds]) -> float:
+    """Returns the range of the elapsed seconds, in parts of the least."""
+    elapsed = [run.elapsed for run in runs]
+    return (max(elapsed) - min(elapsed)) / min(elapsed)
 
 
-def print_rows(seconds, size):
-    """A row for each number of threads; answers the ratio of the most threads to one."""
-    print(
-        "| threads | least | median | processors | MB/s | to one | spread |\n|---|---|---|---|---|---|---|"
-    )
-    one = min(passed for passed, _ in seconds[1])
-    for count, each in seconds.items():
-        passed, used = zip(*each)
-        least, ratio = min(passed), min(passed) / one
-        numbers = f"{least:.2f} s | {statistics.median(passed):.2f} s | {min(used):.2f} s | {size / least:.1f} | {ratio:.2f}"
-        print(f"| {count} | {numbers} | {spread_of(each):.2f} |")
+def print_row(count: int, runs: Sequence[Seconds], one: float, size: float) -> float:
+    """Prints the row of `count` threads, and returns its ratio to the seconds of one thread.
+
+    `size` is the length of the text in MB.
+    """
+    elapsed, cpu = [run.elapsed for run in runs], min(run.cpu for run in runs)
+    least, ratio = min(elapsed), min(elapsed) / one
+    seconds = f"{least:.2f} s | {statistics.median(elapsed):.2f} s | {cpu:.2f} s"
+    print(f"| {count} | {seconds} | {size / least:.1f} | {ratio:.2f} | {spread_of(runs):.2f} |")
     return ratio
 
 
-def measure(cutter, text, options):
-    """One thread and several in turn, and what that decides: the status."""
+def measure(cutter: "Cutter", text: bytes, options: argparse.Namespace) -> int:
+    """Measures one thread and several in turn, and returns the status."""
     parts = parts_of(text, options.threads)
-    if in_threads(cutter, parts, options.threads, list) != in_threads(cutter, parts, 1, list):
-        print("bench-threads: the lines differ from those of one thread", file=sys.stderr)
+    several, alone = (in_threads(cutter, parts, n, list[str]) for n in (options.threads, 1))
+    if several != alone:
+        print("bench/run threads: the lines differ from those of one thread", file=sys.stderr)
         return 1
-    seconds = {1: [], options.threads: []}
+    runs: dict[int, list[Seconds]] = {1: [], options.threads: []}
     with Host() as host:
-        for count in list(seconds) * options.rounds:
-            seconds[count].append(timed(cutter, parts, count))
-    ratio = print_rows(seconds, len(text) / MB)
+        for count in list(runs) * options.rounds:
+            runs[count].append(time_threads(cutter, parts, count))
+    print(
+        "| threads | least | median | CPU | MB/s | to one | spread |\n|---|---|---|---|---|---|---|"
+    )
+    one = min(run.elapsed for run in runs[1])
+    ratio = [print_row(count, each, one, len(text) / MB) for count, each in runs.items()][-1]
     print(f"{len(text) / MB:.0f} MB of text in {options.threads} parts")
-    if options.rounds < 2 or max(map(spread_of, seconds.values())) > SURE or host.other > QUIET:
+    if options.rounds < 2 or max(map(spread_of, runs.values())) > CERTAIN or host.other > QUIET:
         print(f"the ratio {ratio:.2f} is uncertain: it decides nothing")
         return LEFT_OUT if options.most else 0
     return 1 if options.most and ratio > options.most else 0
 
 
-def count(image, text, threads, folder):
+def count_instructions(image: Path, text: bytes, threads: int, folder: Path) -> int:
     """Prints which part of the instructions of one thread is Python's own."""
     if not shutil.which("valgrind"):
-        leave_out(NAME, "valgrind")
-    path = folder / "text"
-    path.write_bytes(text)
-    command = [sys.executable, TOP / "bench/clients" / "lines.py", "wakati_lines", image]
-    library = Path(os.environ["KUMQUATSIEVE_LIBRARY"]).name
-    whole, own = (
-        of - load
-        for of, load in zip(
-            *(instructions_in(command, read, library) for read in (path, os.devnull))
-        )
-    )
+        end_unmeasured("valgrind")
+    path = written(folder, "text", text)
+    lines = TOP / "bench" / "clients" / "lines.py"
+    command: Command = [sys.executable, lines, "wakati_lines", image]
+    library = Path(os.environ[LIBRARY]).name
+    runs, loads = (instructions_in(command, read, library) for read in (path, NO_TEXT))
+    whole, own = (run - load for run, load in zip(runs, loads))
     alone = 1 - own / whole
     print(
-        f"{len(text) / MB:.1f} MB of text: {whole / 1e6:.1f} million instructions without the load, of which the library's are {own / 1e6:.1f}"
+        f"{len(text) / MB:.1f} MB of text: {whole / 1e6:.1f} million instructions without the "
+        f"load, of which the library's are {own / 1e6:.1f}"
     )
     print(
-        f"Python's own are {alone:.3f} of all: by this count {threads} threads take at least {max(alone, 1 / threads):.3f} of the time of one"
+        f"Python's own are {alone:.3f} of all: by this count {threads} threads take at least "
+        f"{max(alone, 1 / threads):.3f} of the time of one"
     )
     return 0
 
 
-def chosen():
-    options = argparse.ArgumentParser(
-        description=__doc__, formatter_class=argparse.RawDescriptionHelpFormatter
-    )
-    options.add_argument("--image", type=Path)
-    options.add_argument("--threads", type=int, default=4, metavar="N")
-    options.add_argument("--megabytes", type=int, default=20, metavar="N")
-    options.add_argument("--rounds", type=int, default=5, metavar="N")
-    options.add_argument(
+def add_options(parser: argparse.ArgumentParser) -> None:
+    parser.add_argument("--image", type=Path)
+    parser.add_argument("--threads", type=int, default=4, metavar="N")
+    parser.add_argument("--megabytes", type=int, default=20, metavar="N")
+    parser.add_argument("--rounds", type=int, default=5, metavar="N")
+    parser.add_argument(
         "--most",
         type=float,
         metavar="RATIO",
         help="the most that several threads may take, in parts of the seconds of one",
     )
-    options.add_argument(
+    parser.add_argument(
         "--instructions",
         action="store_true",
         help="count the instructions of one thread, and measure nothing else",
     )
-    options.add_argument("texts", nargs="*", type=Path)
-    return options.parse_args()
+    parser.add_argument("texts", nargs="*", type=Path, metavar="TEXT")
 
 
-def main():
-    options = chosen()
+def run(options: argparse.Namespace) -> int:
     with tempfile.TemporaryDirectory() as name:
         folder = Path(name)
-        build(NAME, folder)
+        use_module(folder)
         image = options.image or sample_image(folder)
         if options.instructions:
-            return count(image, first_of(corpus(options.texts, MB), MB), options.threads, folder)
+            text = whole_lines(corpus(options.texts, MB), MB)
+            return count_instructions(image, text, options.threads, folder)
         from kumquatsieve import Cutter
 
         return measure(Cutter(image), corpus(options.texts, options.megabytes * MB), options)
-
-
-if __name__ == "__main__":
-    sys.exit(main())

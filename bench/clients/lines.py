@@ -1,23 +1,36 @@
-"""Cuts the lines of standard input by one way of a module, and prints nothing: lines.py WAY DICTIONARY. The lines are read before."""
+"""Segments the lines of standard input by one way of a module, and prints nothing.
+
+    lines.py WAY DICTIONARY
+
+WAY is one of `WAYS`. All lines are read before.
+"""
+import importlib
 import sys
+from typing import TYPE_CHECKING, Any, Callable, Iterator
+
+if TYPE_CHECKING:
+    from kumquatsieve import Cutter
+
+# A function that segments a line, or a text.
+Segment = Callable[[str], object]
 
 
-def mecabs(words):
-    import MeCab
-
-    return MeCab.Tagger(words)
-
-
-def ours():
-    import kumquatsieve
-
-    return kumquatsieve
+def mecab(dictionary: str, output: str = "") -> Any:
+    """Returns a tagger of MeCab's module, which has no types."""
+    tagger = importlib.import_module("MeCab").Tagger
+    return tagger(f"-r /dev/null -d {dictionary}{output}")
 
 
-def over_nodes(tagger):
-    """A function that walks over the nodes of a line, and looks at each one's surface and feature."""
+def cutter_of(dictionary: str, format: "str | None" = None) -> "Cutter":
+    from kumquatsieve import Cutter
 
-    def walk(line):
+    return Cutter(dictionary, format=format)
+
+
+def over_nodes(tagger: Any) -> Segment:
+    """Returns a function that reads the surface and the feature of each node of a line."""
+
+    def walk(line: str) -> None:
         node = tagger.parseToNode(line)
         while node:
             node.surface, node.feature
@@ -26,62 +39,57 @@ def over_nodes(tagger):
     return walk
 
 
-def over_words(cutter):
-    """The same of the words of a line."""
+def over_words(cutter: "Cutter") -> Segment:
+    """Returns a function that reads the surface and the feature of each word of a line."""
 
-    def walk(line):
+    def walk(line: str) -> None:
         for word in cutter.cut(line):
             word.surface, word.feature
 
     return walk
 
 
-def split(tagger):
-    """The surfaces of a line, of a tagger's text of them."""
+def split(tagger: Any) -> Segment:
+    """Returns a function that splits a tagger's text of a line into surfaces."""
     return lambda line: tagger.parse(line).split()
 
 
-def each(call):
-    """A function that calls another one with each line of a text."""
+def each(segment: Segment) -> Segment:
+    """Returns a function that calls `segment` with each line of a text."""
 
-    def run(text):
+    def run(text: str) -> None:
         for line in text.split("\n")[:-1]:
-            call(line)
+            segment(line)
 
     return run
 
 
-def all_of(call):
-    """A function that calls another one with a text, and takes what it gives for each line."""
+def all_of(segment: Callable[[str], Iterator[str]]) -> Segment:
+    """Returns a function that calls `segment` with a text, and consumes its items."""
 
-    def run(text):
-        for _ in call(text):
+    def run(text: str) -> None:
+        for _ in segment(text):
             pass
 
     return run
 
 
-WAYS = {
-    "parse": lambda dictionary: each(ours().Cutter(dictionary).parse),
-    "parse, wakati": lambda dictionary: each(ours().Cutter(dictionary, format="wakati").parse),
-    "parse_lines": lambda dictionary: all_of(ours().Cutter(dictionary).parse_lines),
-    "wakati": lambda dictionary: each(ours().Cutter(dictionary).wakati),
-    "wakati_lines": lambda dictionary: all_of(ours().Cutter(dictionary).wakati_lines),
-    "cut": lambda dictionary: each(over_words(ours().Cutter(dictionary))),
-    "MeCab: parse": lambda dictionary: each(mecabs(f"-r /dev/null -d {dictionary}").parse),
-    "MeCab: parse, wakati": lambda dictionary: each(
-        mecabs(f"-r /dev/null -d {dictionary} -O wakati").parse
-    ),
-    "MeCab: wakati": lambda dictionary: each(
-        split(mecabs(f"-r /dev/null -d {dictionary} -O wakati"))
-    ),
-    "MeCab: parseToNode": lambda dictionary: each(
-        over_nodes(mecabs(f"-r /dev/null -d {dictionary}"))
-    ),
+# The functions that open a dictionary, and return the function that segments a text.
+WAYS: dict[str, Callable[[str], Segment]] = {
+    "parse": lambda dictionary: each(cutter_of(dictionary).parse),
+    "parse, wakati": lambda dictionary: each(cutter_of(dictionary, "wakati").parse),
+    "parse_lines": lambda dictionary: all_of(cutter_of(dictionary).parse_lines),
+    "wakati": lambda dictionary: each(cutter_of(dictionary).wakati),
+    "wakati_lines": lambda dictionary: all_of(cutter_of(dictionary).wakati_lines),
+    "cut": lambda dictionary: each(over_words(cutter_of(dictionary))),
+    "MeCab: parse": lambda dictionary: each(mecab(dictionary).parse),
+    "MeCab: parse, wakati": lambda dictionary: each(mecab(dictionary, " -O wakati").parse),
+    "MeCab: wakati": lambda dictionary: each(split(mecab(dictionary, " -O wakati"))),
+    "MeCab: parseToNode": lambda dictionary: each(over_nodes(mecab(dictionary))),
 }
 
 
-def main():
+def main() -> None:
     way, dictionary = sys.argv[1:]
     WAYS[way](dictionary)(sys.stdin.buffer.read().decode())
 

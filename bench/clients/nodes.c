@@ -1,26 +1,26 @@
-/* Cuts each line of standard input by one way of MeCab's library, reads the fields of its nodes,
-   and prints what they sum up to: nodes WAY DICTIONARY. The ways are `lattice`, of a model with a
-   tagger and a lattice, and `tonode`, of a tagger alone. The lines are read before. */
+/* Segments each line of standard input by one way of MeCab's library, reads the fields of its
+   nodes, and prints their sum: nodes WAY DICTIONARY. The ways are `lattice`, which has a model, a
+   tagger and a lattice, and `tonode`, which has a tagger alone. All lines are read before. */
 #include <mecab.h>
 #include <stdio.h>
 #include <stdlib.h>
 #include <string.h>
 
-/* What cuts: a tagger, and for the one way the model and the lattice beside it. */
-typedef struct cutter {
+/* A tagger, and for `lattice` its model and its lattice. */
+typedef struct segmenter {
     mecab_model_t *model;
     mecab_t *tagger;
     mecab_lattice_t *lattice;
-} cutter;
+} segmenter;
 
 static void stop(const char *why) {
     fprintf(stderr, "nodes: %s\n", why);
     exit(1);
 }
 
-static cutter open_cutter(const char *way, const char *dictionary) {
+static segmenter open_segmenter(const char *way, const char *dictionary) {
     char options[4096];
-    cutter made = {NULL, NULL, NULL};
+    segmenter made = {NULL, NULL, NULL};
     snprintf(options, sizeof options, "-r /dev/null -d %s", dictionary);
     if (strcmp(way, "lattice") == 0) {
         made.model = mecab_model_new2(options);
@@ -33,7 +33,7 @@ static cutter open_cutter(const char *way, const char *dictionary) {
     return made;
 }
 
-static const mecab_node_t *cut(const cutter *by, const char *line, size_t length) {
+static const mecab_node_t *segment(const segmenter *by, const char *line, size_t length) {
     if (!by->lattice) return mecab_sparse_tonode2(by->tagger, line, length);
     mecab_lattice_set_sentence2(by->lattice, line, length);
     return mecab_parse_lattice(by->tagger, by->lattice) ? mecab_lattice_get_bos_node(by->lattice)
@@ -51,7 +51,7 @@ static unsigned long sum_of(const mecab_node_t *node) {
     return sum;
 }
 
-/* All of standard input, with a zero after it. */
+/* Returns all of standard input, with a zero after it. */
 static char *read_all(size_t *length) {
     size_t room = 1 << 20, got = 1;
     char *text = NULL;
@@ -69,12 +69,12 @@ int main(int given, char **words) {
     unsigned long sum = 0;
     if (given != 3) return 2;
     char *text = read_all(&length), *end = text + length;
-    cutter by = open_cutter(words[1], words[2]);
+    segmenter by = open_segmenter(words[1], words[2]);
     for (char *line = text, *next = text; line < end; line = next + 1) {
         next = memchr(line, '\n', (size_t)(end - line));
         if (!next) next = end;
-        const mecab_node_t *node = cut(&by, line, (size_t)(next - line));
-        if (!node) stop("a line was refused");
+        const mecab_node_t *node = segment(&by, line, (size_t)(next - line));
+        if (!node) stop("a line is invalid");
         sum = sum * 31 + sum_of(node);
     }
     printf("%lu\n", sum);

@@ -2,21 +2,20 @@
 
     start.py mecab|ours DICTIONARY
 
-The last line that it prints is a list in JSON: the seconds that passed and the processor's, from
-before the import of the module to the first words. Then it waits until standard input ends.
+The last line that it prints is a list in JSON: the elapsed seconds and the CPU seconds, from before
+the import of the module to the first words. Then it waits until standard input ends.
 """
+import importlib
 import json
 import sys
 import time
 from typing import Callable
 
 
-def opened(which: str, dictionary: str) -> Callable[[str], str]:
-    """Returns the function that segments a line with a dictionary, which stays open as long."""
-    if which == "mecab":
-        import MeCab
-
-        tagger = MeCab.Tagger(f"-r /dev/null -d {dictionary} -O wakati")
+def segmenter_of(module: str, dictionary: str) -> Callable[[str], str]:
+    """Opens a dictionary, and returns the function that segments a line with it."""
+    if module == "mecab":
+        tagger = importlib.import_module("MeCab").Tagger(f"-r /dev/null -d {dictionary} -O wakati")
         return lambda line: str(tagger.parse(line)).strip()
     from kumquatsieve import Cutter
 
@@ -25,12 +24,12 @@ def opened(which: str, dictionary: str) -> Callable[[str], str]:
 
 
 def main() -> None:
-    which, dictionary = sys.argv[1:]
+    module, dictionary = sys.argv[1:]
     line = sys.stdin.readline().rstrip("\n")
-    passed, processor = time.perf_counter(), time.process_time()
-    segment = opened(which, dictionary)
+    elapsed, cpu = time.perf_counter(), time.process_time()
+    segment = segmenter_of(module, dictionary)
     words = segment(line)
-    taken = [time.perf_counter() - passed, time.process_time() - processor]
+    taken = [time.perf_counter() - elapsed, time.process_time() - cpu]
     print(f"{words}\n{json.dumps(taken)}", flush=True)
     sys.stdin.read()
 

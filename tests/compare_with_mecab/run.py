@@ -12,7 +12,7 @@ U+FFFF, and has at most 65,535 bytes. Without a text, the Japanese manual pages 
 
 Needs: dictc and jseg in crates/*/out, mecab and mecab-dict-index (Debian: mecab, mecab-utils), and
 at least one dictionary (mecab-ipadic, mecab-jumandic-utf8, mecab-naist-jdic, unidic-mecab). The
-status is 77 if one of these is missing, or if a text is empty. bench/compare.py compares the speed.
+status is 77 if one of these is missing, or if a text is empty. bench/run compares the speed.
 """
 import argparse
 import itertools
