@@ -1,40 +1,54 @@
 #!/usr/bin/env python3
-"""Draws the pictures of the documents, or checks that they are what is drawn now:
+"""Draws the pictures of the documents, or checks that they are up to date:
 
-    tests/docs/pictures.py             compares docs/pictures/NAME.dot with the graphs, byte for byte, and the words of NAME.svg with what is drawn
+    tests/docs/pictures.py             compares docs/pictures/NAME.dot with the graphs, byte for
+                                       byte, and the words of NAME.svg with the drawings
     tests/docs/pictures.py --write     writes both
 
-A graph is that of a lattice over IPADIC, with the entries of docs/DICTIONARIES.md or without. Graphviz's versions place words differently, so only
-the words of a drawing are compared.
+A graph is the lattice of a line over IPADIC, with the entries of docs/DICTIONARIES.md or without.
+Versions of Graphviz place words differently, so only the words of a drawing are compared. The
+status is 1 if a picture differs.
 
-The library is the one that KUMQUATSIEVE_LIBRARY names. Without that it is built of the archive that `rt lib` left in crates/cutter_c/out; dictc is
-that in crates/dictc/out. Needs: gcc, Graphviz's dot, and IPADIC's sources (Debian: graphviz, mecab-ipadic). Where one is not there the status is 77,
-and nothing was drawn. The status is 1 where a picture is another one.
+The library is the one that KUMQUATSIEVE_LIBRARY names. Without the variable it is built from
+crates/cutter_c/out/libcutter_c.a. Needs: crates/dictc/out/dictc, gcc, Graphviz's dot, and IPADIC's
+sources (Debian: graphviz, mecab-ipadic). If one is missing the status is 77.
 """
 import os
 import re
-import shutil
 import subprocess
 import sys
 import tempfile
 from pathlib import Path
-from typing import NamedTuple
+from typing import Iterator, List, NamedTuple
 
 sys.dont_write_bytecode = True
-TOP = Path(__file__).resolve().parents[2]
+sys.path.insert(0, str(Path(__file__).resolve().parents[1]))
+from support.running import (  # noqa: E402
+    ARCHIVE,
+    IMPORTER,
+    TOP,
+    Words,
+    end_left_out,
+    missing_of,
+    program,
+)
+
+sys.path.insert(0, str(TOP / "python"))
+
 PICTURES = TOP / "docs" / "pictures"
 DOCUMENT = TOP / "docs" / "DICTIONARIES.md"
-DICTC = TOP / "crates" / "dictc" / "out" / "dictc"
-ARCHIVE = TOP / "crates" / "cutter_c" / "out" / "libcutter_c.a"
+DICTC = program("dictc")
 SOURCES = Path("/usr/share/mecab/dic/ipadic/matrix.def")
 LIBRARY = "KUMQUATSIEVE_LIBRARY"
-LEFT_OUT = 77
 # The entries of the document, as its commands have them.
 ENTRY = re.compile(r"^\$ echo '([^']*,1285,1285,[^']*)' >>? own\.csv$", re.M)
 
 
 class Picture(NamedTuple):
-    """The lattice of a line, with so many of the document's entries; of its nodes those that lost by at most so much."""
+    """The lattice of a line with the first `entries` entries of the document.
+
+    It has the nodes that lost by at most `within`.
+    """
 
     name: str
     entries: int
@@ -42,98 +56,96 @@ class Picture(NamedTuple):
     within: int = 4000
 
 
-ROWS = [Picture("cut_before", 0), Picture("cut_after", 2)]
+CASES = [Picture("cut_before", 0), Picture("cut_after", 2)]
 
 
-def missing():
-    """What is wanted and isn't there."""
-    programs = [name for name in ("gcc", "dot") if not shutil.which(name)]
+def missing() -> List[str]:
+    """Returns the programs and files that are needed and missing."""
     library = [] if LIBRARY in os.environ else [ARCHIVE]
-    return [*programs, *(str(path) for path in [DICTC, SOURCES, *library] if not path.exists())]
+    files = [str(path) for path in [DICTC, SOURCES, *library] if not path.exists()]
+    return [*missing_of(["gcc", "dot"]), *files]
 
 
-def run(*words):
-    subprocess.run(
-        list(map(str, words)), check=True, stdout=subprocess.DEVNULL, stderr=subprocess.DEVNULL
-    )
+def run_silently(words: Words) -> None:
+    silent = subprocess.DEVNULL
+    subprocess.run([str(word) for word in words], check=True, stdout=silent, stderr=silent)
 
 
-def prepare(folder):
-    """Builds what the graphs are made with, and answers the path of the system's image."""
+def prepare(folder: Path) -> Path:
+    """Builds the library and compiles IPADIC. Returns the path of its image."""
     os.environ["PATH"] = f"{DICTC.parent}:{os.environ['PATH']}"
     if LIBRARY not in os.environ:
-        run(TOP / "packaging/build-library", "--built", folder / "prefix")
+        run_silently([TOP / "packaging/build-library", "--built", folder / "prefix"])
         os.environ[LIBRARY] = str(folder / "prefix" / "lib" / "libkumquatsieve.so.0")
-    sys.path.insert(0, str(TOP / "python"))
-    run(TOP / "importer/kumquatsieve-import", "ipadic", folder / "ipadic.img")
+    run_silently([IMPORTER, "ipadic", folder / "ipadic.img"])
     return folder / "ipadic.img"
 
 
-def graph_of(picture, image, folder):
-    """A picture's graph."""
+def graph_of(picture: Picture, image: Path, folder: Path) -> str:
+    """Returns the graph of a picture, in Graphviz's language."""
+    # It loads the library, which is built by now.
     from kumquatsieve import Cutter
 
     entries = ENTRY.findall(DOCUMENT.read_text())[: picture.entries]
     if len(entries) != picture.entries:
         sys.exit(
-            f"pictures: {DOCUMENT} has {len(entries)} entries, and {picture.name} wants {picture.entries}"
+            f"pictures: {DOCUMENT} has {len(entries)} entries, and {picture.name} needs "
+            f"{picture.entries}"
         )
     users = []
     if entries:
         (folder / "own.csv").write_text("".join(f"{entry}\n" for entry in entries))
-        run(DICTC, "user", "--dic", image, "--out", folder / "own.img", folder / "own.csv")
+        words: Words = [DICTC, "user", "--dic", image, "--out", folder / "own.img"]
+        run_silently([*words, folder / "own.csv"])
         users = [folder / "own.img"]
     return Cutter(image, users).lattice(picture.line).to_dot(picture.within)
 
 
-def drawn(graph):
-    """A graph as Graphviz draws it, without the comments that name its version."""
-    svg = subprocess.run(
-        ["dot", "-Tsvg"], input=graph.encode(), check=True, stdout=subprocess.PIPE
-    ).stdout.decode()
-    return re.sub(r"<!--.*?-->\n", "", svg, flags=re.S)
+def drawing_of(graph: str) -> str:
+    """Draws a graph by Graphviz, without the comments that name its version."""
+    words = ["dot", "-Tsvg"]
+    svg = subprocess.run(words, input=graph.encode(), check=True, stdout=subprocess.PIPE).stdout
+    return re.sub(r"<!--.*?-->\n", "", svg.decode(), flags=re.S)
 
 
-def words_of(svg):
+def words_of(svg: str) -> List[str]:
     return sorted(re.findall(r">([^<>\n]+)</text>", svg))
 
 
-def wrong_of(picture, graph):
-    """What a picture that is kept has otherwise."""
-    for ending, same in (
-        (".dot", lambda kept: kept == graph),
-        (".svg", lambda kept: words_of(kept) == words_of(drawn(graph))),
-    ):
-        path = PICTURES / (picture.name + ending)
-        if not (path.exists() and same(path.read_text())):
-            yield f"{path.relative_to(TOP)} is not what is drawn now: tests/docs/pictures.py --write"
+def differences(picture: Picture, graph: str) -> Iterator[str]:
+    """Yields a message for each file of a picture that is missing or out of date."""
+    dot, svg = (PICTURES / f"{picture.name}.{suffix}" for suffix in ("dot", "svg"))
+    is_current = {
+        dot: dot.exists() and dot.read_text() == graph,
+        svg: svg.exists() and words_of(svg.read_text()) == words_of(drawing_of(graph)),
+    }
+    for path in (path for path, current in is_current.items() if not current):
+        yield f"{path.relative_to(TOP)} is out of date: tests/docs/pictures.py --write"
 
 
-def write(picture, graph):
+def write(picture: Picture, graph: str) -> None:
     PICTURES.mkdir(exist_ok=True)
     (PICTURES / f"{picture.name}.dot").write_text(graph)
-    (PICTURES / f"{picture.name}.svg").write_text(drawn(graph))
+    (PICTURES / f"{picture.name}.svg").write_text(drawing_of(graph))
 
 
-def main(words):
-    if words not in ([], ["--write"]):
+def main(arguments: List[str]) -> int:
+    if arguments not in ([], ["--write"]):
         sys.exit("usage: tests/docs/pictures.py [--write]")
-    absent = missing()
-    if absent:
-        print(f"pictures: {' and '.join(absent)} is not there: nothing was drawn", file=sys.stderr)
-        return LEFT_OUT
-    faults = []
+    if missing():
+        end_left_out(f"{' and '.join(missing())} missing")
+    found: List[str] = []
     with tempfile.TemporaryDirectory() as name:
         image = prepare(Path(name))
-        for picture in ROWS:
+        for picture in CASES:
             graph = graph_of(picture, image, Path(name))
-            if words:
+            if arguments:
                 write(picture, graph)
-            faults += wrong_of(picture, graph)
-    for fault in faults:
-        print(fault, file=sys.stderr)
-    print(f"{len(ROWS)} pictures, {len(faults)} faults")
-    return 1 if faults else 0
+            found += differences(picture, graph)
+    for difference in found:
+        print(difference, file=sys.stderr)
+    print(f"{len(CASES)} pictures, {len(found)} differences")
+    return 1 if found else 0
 
 
 sys.exit(main(sys.argv[1:]))
