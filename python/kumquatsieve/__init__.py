@@ -1,4 +1,4 @@
-"""Cuts Japanese text into words, by the proved library of Kumquatsieve.
+"""Segments Japanese text into words, with the proved library of Kumquatsieve.
 
     from kumquatsieve import Cutter
 
@@ -6,7 +6,7 @@
     for word in cutter.cut("すもももももももものうち"):
         print(word.surface, word.feature)
 
-docs/PYTHON.md has all of it.
+docs/PYTHON.md describes each class and call.
 """
 from __future__ import annotations
 

@@ -1,4 +1,4 @@
-"""Where the library writes what it answers to a cutter: memory that is used again from line to line."""
+"""The buffers that the library writes to, which are used again from line to line."""
 from __future__ import annotations
 
 import struct
@@ -16,7 +16,7 @@ if TYPE_CHECKING:
     # length.
     Buffer = Tuple[Any, Any, Any, int]
 
-# A record's fields, as `Record` has them, and those of a node's; what is missing to the next record is left out.
+# The fields of a `Record` and of a `NodeRecord`, without the padding at the end.
 FIELDS = struct.Struct("@NNNNIHHhBBqN0q")
 NODE_FIELDS = struct.Struct("@NNNNIHHhBBqNqBB0q")
 RECORD = FIELDS.size
@@ -25,23 +25,30 @@ assert RECORD == sizeof(Record) and NODE_FIELDS.size == sizeof(NodeRecord)
 WORDS, NODES = LIBRARY.words, LIBRARY.nodes
 FIRST = ready_size(0)
 
-# Bytes from an address on, of which a part is taken: an array of each length would be a type of its own, which ctypes keeps.
+# All bytes from an address on, of which slices are taken. An array of each length would be a type
+# of its own, which ctypes keeps for ever.
 ALL = c_char * sys.maxsize
 
 
 def bytes_at(address: int, length: int) -> memoryview:
-    """The bytes at an address, which are not copied. `ctypes.string_at` takes lengths of 32 bits alone."""
+    """Returns the bytes at an address, without a copy.
+
+    `ctypes.string_at` takes lengths of 32 bits alone.
+    """
     return memoryview(ALL.from_address(address)).cast("B")[:length]
 
 
 def buffer_of(size: int, count: int) -> Buffer:
-    """Room for so many of a size."""
+    """Allocates a buffer for `count` items of `size` bytes."""
     made = (c_char * (size * count))()
     return byref(made), ready_size(count), made, size * count
 
 
 class Buffers:
-    """A text, the words of a line, and the numbers that say how many of each there are; what a call is given for each is made once."""
+    """The buffers of one handle: for a text, for the words of a line, and for their lengths.
+
+    What a call takes for each of them is made once.
+    """
 
     def __init__(self) -> None:
         self.total, self.place, self.lines = c_int64(), c_size_t(), c_uint64()
@@ -60,12 +67,15 @@ class Buffers:
         self._lent: Tuple[Optional[int], Any] = None, ALL.from_address(0)
 
     def lent(self) -> memoryview:
-        """The bytes that the library lent last, by what `out` and `length` are."""
+        """Returns the bytes that the library lent last, by `out` and `length`, without a copy."""
         return bytes_at(self.out.value or 0, self.length.value)
 
     def text_lent(self) -> str:
-        """The text of these bytes, where they are few: a copy of them takes less time than a view. They are lent from one place as long as the
-        library's buffer has room. That place and what leads there are kept as one value, which is set by one step.
+        """Returns a copy of the bytes that the library lent last, as text.
+
+        For a short text this takes less time than `lent`. The bytes lie at the same address as long
+        as the library's buffer has room. The address and the array there are kept as one value,
+        which is set by one step.
         """
         place, lent = self.out.value, self._lent
         if place != lent[0]:
@@ -74,7 +84,7 @@ class Buffers:
         return text
 
     def text_of(self, call: Any, cutter: Any) -> str:
-        """The text that a call writes into a buffer, which is made longer where it has less room than is needed."""
+        """Returns the text that a call writes to a buffer, which is replaced if it is too short."""
         at, room, text, _ = self._text
         code = call(cutter, at, room, self.length_at)
         if code == SHORT_BUFFER:
@@ -86,7 +96,10 @@ class Buffers:
         return written
 
     def records_of(self, cutter: Any) -> bytes:
-        """The records of the words of the line that was cut last, whose number `count_at` has. `FIELDS` reads them."""
+        """Returns the records of the words of the last line, which `FIELDS` reads.
+
+        Their count is where `count_at` points.
+        """
         at, most, fields, room = self._records
         size = self._count.value * RECORD
         if size > room:
@@ -98,8 +111,10 @@ class Buffers:
         return records
 
     def nodes_of(self, cutter: Any, guess: int) -> bytes:
-        """The records of the nodes of the line that was cut last, of which so many are guessed. `NODE_FIELDS` reads them. Their buffer is not kept,
-        since it may be large."""
+        """Returns the records of the nodes of the last line, which `NODE_FIELDS` reads.
+
+        `guess` is how many nodes are expected. The buffer is not kept, because it may be large.
+        """
         count, code = guess, OK
         while code == OK:
             at, room, fields, _ = buffer_of(NODE_FIELDS.size, count)

@@ -1,4 +1,4 @@
-"""Cuts lines into words."""
+"""Segments lines into words."""
 from __future__ import annotations
 
 import os
@@ -24,32 +24,37 @@ if TYPE_CHECKING:
     from ._sources import Source
     from ._words import Words
 
-# What the calls of a handle are, which Python looks for in a class each time.
+# Methods of a handle, which Python would look up in the class at each call.
 TOLD, LATTICED, SURFACES_OF, PRINTED = Handle.told, Handle.latticed, Handle.surfaces, Handle.printed
 
 
 class Cutter:
-    """Cuts lines by the image of a system dictionary, with users' laid over it.
+    """Segments lines with the image of a system dictionary and of user dictionaries.
 
-    An image is a path, or the bare name of an installed one, as `jseg -d` has it, or bytes, or anything else with the buffer protocol.
-    Without one it is that which KUMQUATSIEVE_DICTIONARY names, or else the only one that is installed.
+    An image is a path, or the bare name of an installed image, as for `jseg -d`, or bytes, or
+    another object with the buffer protocol. Without an image it is the one that the variable
+    KUMQUATSIEVE_DICTIONARY names, or else the only one that is installed.
 
-    Several threads may call one cutter at once, and a process may fork while they do. `share` and `copy.copy` make another cutter over the
-    same dictionaries. `close`, or the end of a `with`, gives back what the cutter holds.
+    Several threads may call one Cutter at once, and a process may fork while they do. `share` and
+    `copy.copy` make another Cutter over the same dictionaries. `close`, or the end of a `with`,
+    frees its memory.
 
-    The fields of a feature have the names in the file NAME.fields beside the image NAME.img, which `kumquatsieve-import` writes, or those of
-    `fields`, in their order; None is a field without a name. Words have them as attributes.
+    The fields of a feature have the names in the file NAME.fields beside the image NAME.img, which
+    `kumquatsieve-import` writes, or those of `fields`, in their order; None is a field without a
+    name. Words have them as attributes.
 
-    `parse` and `parse_lines` print in the cutter's format: `"wakati"`, a `Format`, or else a line for each word, with its feature, and EOS.
+    `parse` and `parse_lines` print in the Cutter's format: `"wakati"`, a `Format`, or by default a
+    line for each word, with its feature, and EOS.
 
-    The file of an image is mapped, so processes share its memory. Nobody may write to the file while
-    a cutter has it, but another file may take its place. A file that `kumquatsieve-import` has
-    tested is loaded without tests. Other files, and bytes, get each test except that of the digest.
-    With `test_digest` each image gets each test. The digest takes most of the time of a load.
+    The file of an image is mapped, so processes share its memory. Nobody may write to the file
+    while a Cutter has it open, but it may be replaced by another file. A file that
+    `kumquatsieve-import` has tested is loaded without tests. Other files, and bytes, get each test
+    except that of the checksum. With `test_digest` each image gets each test. The checksum takes
+    most of the time of a load.
 
-    A cutter pickles as what it was made of, the paths or names of its images, whether their digests
-    are tested, its grouping and its format.
-    A process loads the images once for all cutters that it gets so, and not at all where it has a cutter of them, as after a fork.
+    A Cutter is pickled as what it was made of: the paths or names of its images, whether their
+    checksums are tested, its grouping and its format. A process loads the images once for all
+    Cutters that it unpickles, and not at all if it has a Cutter of them, as after a fork.
     """
 
     def __init__(
@@ -77,11 +82,14 @@ class Cutter:
 
     @property
     def fields(self) -> Tuple[str, ...]:
-        """The names of the features' fields, those that were given or those beside the image."""
+        """The names of the features' fields: those given, or those beside the image."""
         return tuple(self._fields)
 
     def share(self) -> "Cutter":
-        """Another cutter over the same dictionaries, with the same grouping. Each is closed by itself."""
+        """Returns another Cutter over the same dictionaries, with the same grouping.
+
+        Each is closed by itself.
+        """
         other = type(self).__new__(type(self))
         other.__dict__.update(self.__dict__)
         other._handles = self._handles.share()
@@ -112,37 +120,48 @@ class Cutter:
         self.close()
 
     def close(self) -> None:
-        """Gives back what the cutter holds, after the calls of other threads have ended. A later call is a ValueError."""
+        """Frees the memory of this Cutter, after the calls of other threads have ended.
+
+        A later call raises ValueError.
+        """
         self._handles.close()
 
     def set_grouping(self, grouping: int) -> None:
-        """How many characters may follow the first one of a grouped unknown word, at most 1,000. It holds for the calls that begin
-        later."""
+        """Sets how many characters may follow the first one of a grouped unknown word.
+
+        It is at most 1,000, and applies to the calls that start later.
+        """
         grouping = index(grouping)
         if not 0 <= grouping < 2**32:
             raise ValueError(f"grouping is 0 to 1,000, and not {grouping}")
         self._handles.set_grouping(grouping)
 
     def cut(self, line: str) -> Words:
-        """The words of a line. Its own end, as a file's lines have it, is dropped; another line feed is refused."""
+        """Returns the words of a line.
+
+        The line feed at its end, as lines of a file have it, is dropped. Another one is an error.
+        """
         return self._words(line_of(line))
 
     def _words(self, text: bytes) -> Words:
         return words_of(text, self._handles.call(TOLD, text, WORDS), self._names)
 
     def lattice(self, line: str) -> Lattice:
-        """The lattice of a line, for a caller that asks why it was cut so. It is made for this call alone, so no other call takes longer for it."""
+        """Returns the lattice of a line, which shows why the line was segmented so.
+
+        It is made for this call alone, so other calls don't take longer because of it.
+        """
         from ._lattice import lattice_of
 
         text = line_of(line)
         return lattice_of(text, self._handles.call(LATTICED, text, None), self._names)
 
     def wakati(self, line: str) -> List[str]:
-        """The surfaces of a line's words."""
+        """Returns the surfaces of the words of a line."""
         return self._handles.call(SURFACES_OF, encoded(line), SURFACES)
 
     def parse(self, line: str) -> str:
-        """The text of a line in the cutter's format."""
+        """Returns the text of a line in the Cutter's format."""
         return self._handles.call(PRINTED, encoded(line), self._texts)
 
     def format(
@@ -153,32 +172,41 @@ class Cutter:
         bos: str = "",
         eos: str = "EOS\\n",
     ) -> str:
-        """The text of a line in another format than the cutter's, whose parts are those of `Format`. Without `node` a line for each word,
-        with its feature."""
+        """Returns the text of a line in the format of these texts, which are those of `Format`.
+
+        Without `node` there is a line for each word, with its feature.
+        """
         return self._handles.call(
             PRINTED, encoded(line), texts_of((NODE if node is None else node, unk, bos, eos))
         )
 
     def lines(self, source: Source, errors: str = "strict") -> Lines[Words]:
-        """The words of each line of a text, of a file or of an iterable of lines, as soon as the line is there.
+        """Returns an iterator over the words of each line, as soon as the line is there.
 
-        A fault says the line's number in `place`. What is no UTF-8 is refused; with errors="replace" it is U+FFFD, as Python's decoder has
-        it, and `replaced` of the answer counts them.
+        The source is a text, a file or an iterable of lines. `place` of a Fault is the number of
+        the line. Bytes that are not UTF-8 are an error. With errors="replace" they become U+FFFD,
+        as by Python's decoder, and `replaced` of the iterator counts them.
         """
         from ._lines import lines_one_by_one
 
         return lines_one_by_one(errors, source, self._words)
 
     def wakati_lines(self, source: Source, errors: str = "strict") -> Lines[str]:
-        """The surfaces of each line with a blank between two, as `lines` has it. About a megabyte is read at once, and cut by one call of
-        the library, during which other threads run."""
+        """Returns an iterator over the surfaces of each line, joined by blanks, as for `lines`.
+
+        About a megabyte is read at once, and segmented by one call of the library, during which
+        other threads run.
+        """
         from ._lines import lines_at_once
 
         return lines_at_once(errors, source, self._joined)
 
     def parse_lines(self, source: Source, errors: str = "strict") -> Lines[str]:
-        """The text of each line in the cutter's format, as `wakati_lines` has it. Joined it is what `jseg` prints for the source, except for
-        carriage returns at line ends, which `jseg` takes for characters."""
+        """Returns an iterator over the text of each line in the Cutter's format.
+
+        It reads as `wakati_lines` does. The texts joined are what `jseg` prints for the source,
+        except for carriage returns at line ends, which are characters to `jseg`.
+        """
         from ._lines import lines_at_once
 
         return lines_at_once(errors, source, self._printed_lines)
@@ -191,14 +219,14 @@ class Cutter:
 
 
 def names_of(image: Image, fields: Optional[Sequence[Optional[str]]]) -> Dict[str, int]:
-    """The names of fields that are given, or else those beside an image."""
+    """Returns the given names of fields, or those beside an image, with their numbers."""
     if fields is not None:
         return numbered(fields, TAKEN, "fields")
     return names_beside(path_of(image), TAKEN) if isinstance(image, (str, os.PathLike)) else {}
 
 
 def again(kind: Type[Cutter], origin: Origin, grouping: int, state: Dict[str, Any]) -> Cutter:
-    """The cutter that was pickled."""
+    """Returns the Cutter that was pickled."""
     cutter = kind.__new__(kind)
     cutter._origin = origin
     cutter._handles = LOADED.again(cutter._origin)

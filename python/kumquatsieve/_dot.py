@@ -4,8 +4,8 @@ from typing import TYPE_CHECKING, Dict, Iterable, Tuple
 if TYPE_CHECKING:
     from ._lattice import Node
 
-# What a label has in place of a character. Graphviz reads escapes and the entities of HTML. Control
-# characters, and those that no XML may have, are shown by their code points, as \u{1b}.
+# The replacements of characters in a label. Graphviz reads escapes and the entities of HTML.
+# Control characters, and those that XML does not allow, are shown by their code points: \u{1b}.
 UNSHOWN = (*range(0x20), *range(0x7F, 0xA0), 0xFFFE, 0xFFFF)
 ESCAPES: Dict[int, str] = {number: f"\\\\u{{{number:x}}}" for number in UNSHOWN}
 ESCAPES.update({ord('"'): '\\"', ord("\\"): "\\\\", ord("&"): "&amp;"})
@@ -13,13 +13,17 @@ BEST = "color=red, penwidth=2"
 
 
 def dot_of(line: str, numbered: Iterable[Tuple[int, "Node"]]) -> str:
-    """A graph from left to right, of a circle for each place and a box for each node, which has its number in the lattice. The best path is red."""
+    """Returns a graph from left to right: a circle for each position and a box for each node.
+
+    Each node has its number in the lattice. The best path is red.
+    """
     boxes = "".join(box_of(number, node) for number, node in numbered)
-    return f'digraph {{\n  rankdir=LR;\n  label="{escaped(line)}";\n  node [shape=circle];\n{boxes}}}\n'
+    head = f'  rankdir=LR;\n  label="{escaped(line)}";\n  node [shape=circle];\n'
+    return f"digraph {{\n{head}{boxes}}}\n"
 
 
 def box_of(number: int, node: "Node") -> str:
-    """A node's box, and its edges."""
+    """Returns the box of a node and its edges."""
     box, edge = (f", {BEST}", f" [{BEST}]") if node.best else ("", "")
     lost = "no path" if node.lost is None else f"lost {node.lost}"
     label = "\\n".join(
@@ -31,9 +35,10 @@ def box_of(number: int, node: "Node") -> str:
             lost,
         ]
     )
-    return f'  w{number} [shape=box{box}, label="{label}"];\n  {node.byte_place} -> w{number} -> {node.byte_end}{edge};\n'
+    edges = f"{node.byte_place} -> w{number} -> {node.byte_end}{edge}"
+    return f'  w{number} [shape=box{box}, label="{label}"];\n  {edges};\n'
 
 
 def escaped(text: str) -> str:
-    """A text as a label has it."""
+    """Returns a text with the replacements that a label needs."""
     return text.translate(ESCAPES)

@@ -1,4 +1,4 @@
-"""Faults, as exceptions."""
+"""The exceptions of the library's error codes."""
 from __future__ import annotations
 
 import ctypes
@@ -9,16 +9,17 @@ TYPE_CHECKING = False
 if TYPE_CHECKING:
     from typing import Optional, Tuple
 
-# What to do instead, by the code.
+# What to do instead, by the error code.
 ADVICE = {"K1": "this is more than one line; Cutter.lines, wakati_lines and parse_lines take many"}
 
 
 class Fault(Exception):
-    """Why a call was refused.
+    """An error that the library returned.
 
-    `code` and `name` are those of `jseg --explain`. `number` is the section, key, token or user dictionary that is at fault, and for a
-    format the byte in its text `part`; `place` is the line's number among those that were cut by one call, counted from 1; `at` is the byte of
-    a line in UTF-8, where the library says it. What there is none of is None.
+    `code` and `name` are those of `jseg --explain`. `number` is the section, key, token or user
+    dictionary that is invalid, and for a format the byte in its text `part`. `place` is the number
+    of the line among those of one call, counted from 1. `at` is the byte of the line in UTF-8, if
+    the library reports it. Those that an error does not have are None.
     """
 
     def __init__(
@@ -30,7 +31,7 @@ class Fault(Exception):
         place: Optional[int] = None,
         at: Optional[int] = None,
     ) -> None:
-        # All of them are the exception's arguments, from which it is made again where it is unpickled.
+        # All are arguments of the exception, because `pickle` makes it again from these.
         super().__init__(code, name, number, part, place, at)
         self.code = code
         self.name = name
@@ -49,7 +50,7 @@ class Fault(Exception):
 
 
 def words_of(code: int) -> Tuple[str, str]:
-    """The letter and number of a code, and its name."""
+    """Returns the letter and number of an error code, and its name."""
     room, needed = ctypes.create_string_buffer(64), ctypes.c_size_t()
     LIBRARY.fault(code, room, len(room), ctypes.addressof(needed))
     letters, _, name = room.raw[: needed.value].decode().partition(" ")
@@ -63,7 +64,7 @@ def fault_of(
     place: Optional[int] = None,
     at: Optional[int] = None,
 ) -> Exception:
-    """What a code means, as an exception."""
+    """Returns the exception of an error code."""
     if code == MEMORY:
         return MemoryError()
     letters, name = words_of(code)
@@ -73,5 +74,5 @@ def fault_of(
 def raise_fault(
     code: int, number: Optional[int] = None, part: Optional[str] = None, at: Optional[int] = None
 ) -> None:
-    """Raises what a code means."""
+    """Raises the exception of an error code."""
     raise fault_of(code, number, part, at=at)

@@ -10,15 +10,17 @@ TYPE_CHECKING = False
 if TYPE_CHECKING:
     from typing import Dict, Iterable, List, Optional, Union
 
-# A field with the blanks before it: in quotes, which are doubled within, or as it stands. What is behind a closing quote is no part of it.
+# A field with the blanks before it, in quotes or without. Quotes within quotes are doubled. What
+# follows a closing quote is no part of the field.
 FIELD = r'[ \t]*(?:"((?:[^"]|"")*)"?[^,]*|([^,]*))'
 # The first line of a file of names that belongs to one image has this and the image's checksum,
 # which is the last bytes of the image.
 CHECKSUM = "; image-sha256 "
 CHECKSUM_BYTES = 32
-# Where there is no file of names. The name of an image may be too long for another ending.
+# The errors if there is no file of names. The name of an image may be too long for the suffix.
 NO_FILE = (ENOENT, ENOTDIR, ENAMETOOLONG)
-# Names that a field may be asked for by in each dictionary, and what it is called where it has another name.
+# Names by which the fields of each dictionary can be read, and the names that some dictionaries
+# give these fields.
 COMMON = {
     "conjugation_type": "cType",
     "conjugation_form": "cForm",
@@ -30,10 +32,10 @@ COMMON = {
 
 
 def split(feature: str) -> List[str]:
-    """The fields of a feature, by MeCab's quoting."""
+    """Returns the fields of a feature, by MeCab's quoting."""
     if '"' not in feature and " " not in feature and "\t" not in feature:
         return feature.split(",")
-    # Most features are plain, and an import of it takes as long as that of the whole module.
+    # Most features are plain, and the import of `re` takes as long as that of this module.
     import re
 
     fields, at, field = [], 0, re.compile(FIELD)
@@ -47,10 +49,12 @@ def split(feature: str) -> List[str]:
 
 
 def names_beside(image: Union[str, "os.PathLike[str]"], taken: Iterable[str]) -> Dict[str, int]:
-    """Returns the names of fields in the file NAME.fields beside the image NAME.img, as `numbered`
-    has them. There are none if there is no file, or if it belongs to another image. If the image is
-    a link, the file is beside its target, as `kumquatsieve-import` writes it. The first line may
-    name the image. Each line after it has a name. An empty line is a field without one."""
+    """Returns the names of fields in the file NAME.fields beside the image NAME.img, with numbers.
+
+    There are none if there is no file, or if it belongs to another image. If the image is a link,
+    the file is beside its target, as `kumquatsieve-import` writes it. The first line may name the
+    image. Each line after it has a name. An empty line is a field without one.
+    """
     target = os.path.realpath(image)
     path = target.removesuffix(ENDING) + ".fields"
     try:
@@ -69,9 +73,11 @@ def names_beside(image: Union[str, "os.PathLike[str]"], taken: Iterable[str]) ->
 
 
 def checksum_of(image: str) -> str:
-    """Returns the checksum of an image, its last bytes, in hex; an empty text if the file has fewer
-    bytes or is not there. What is no regular file, such as a pipe, is not read: its bytes come
-    once."""
+    """Returns the checksum of an image, its last bytes, in hex.
+
+    It is empty if the file is too short or missing. A file that is not regular, such as a pipe, is
+    not read, because its bytes come once.
+    """
     try:
         if os.path.isfile(image):
             with open(image, "rb") as file:
@@ -83,8 +89,11 @@ def checksum_of(image: str) -> str:
 
 
 def numbered(names: Iterable[Optional[str]], taken: Iterable[str], place: str) -> Dict[str, int]:
-    """The names of fields, each with its field's number. A field whose name is None or empty has none. `taken` are names that no field may
-    have, and `place` is where the names stand."""
+    """Returns the names of fields, each with the number of its field.
+
+    A field whose name is None or empty has none. `taken` are names that no field may have, and
+    `place` names the source of the names in errors.
+    """
     found: Dict[str, int] = {}
     for number, name in enumerate(names):
         if not name:
@@ -100,7 +109,7 @@ def numbered(names: Iterable[Optional[str]], taken: Iterable[str], place: str) -
 
 
 def with_common(names: Dict[str, int]) -> Dict[str, int]:
-    """The names, and those that are common to dictionaries, each where no field has it and a field has the other name."""
+    """Adds the names of COMMON that no field has, if a field has the other name."""
     common = {
         name: names[other] for name, other in COMMON.items() if name not in names and other in names
     }

@@ -7,25 +7,26 @@ TYPE_CHECKING = False
 if TYPE_CHECKING:
     from typing import Optional, Tuple, Union
 
-    # Those of a known word, of an unknown one, before the first and after the last.
+    # The texts of a known word, of an unknown word, before the first and after the last.
     Texts = Tuple[bytes, bytes, bytes, bytes]
 
-    # A `Format`, which is imported only where a caller makes one.
+    # A `Format`, whose class is imported only if a caller names it.
     Parts = Tuple[str, Optional[str], str, str]
 
-# The text of a word where none is given.
+# The text of a word if none is given.
 NODE = "%m\\t%H\\n"
 
 DEFAULT: Texts = (NODE.encode(), NODE.encode(), b"", b"EOS\\n")
 WAKATI: Texts = (b"%m ", b"%m ", b"", b"\\n")
 
-# What tells all words of a line in one call: a line for each surface, or for each surface and feature. So an empty text is behind the last one.
+# The formats with which one call prints all words of a line: a line for each surface, or for each
+# surface and feature.
 SURFACES: Texts = (b"%m\\n", b"%m\\n", b"", b"")
 WORDS: Texts = (b"%m\\n%H\\n", b"%m\\n%H\\n", b"", b"")
 
 
 def texts_of(format: Union[None, str, Parts]) -> Texts:
-    """The four texts of a format: the default, that of a name, or those that are given."""
+    """Returns the four texts of a format: the default, a named one, or a given one."""
     if format is None:
         return DEFAULT
     if isinstance(format, str):

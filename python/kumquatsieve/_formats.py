@@ -3,8 +3,11 @@ from typing import NamedTuple, Optional
 
 
 class Format(NamedTuple):
-    """An output format in MeCab's items and escapes: `node` for a known word, `unk` for an unknown one (as `node` where it isn't given),
-    `bos` before the first and `eos` after the last."""
+    """An output format in MeCab's items and escapes.
+
+    `node` is the text of a known word, `unk` of an unknown word (`node` if it is None), `bos`
+    precedes the first word and `eos` follows the last one.
+    """
 
     node: str
     unk: Optional[str] = None

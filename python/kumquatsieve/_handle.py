@@ -1,4 +1,4 @@
-"""One cutter of the library's."""
+"""A segmenter of the library, with its buffers."""
 from __future__ import annotations
 
 import os
@@ -27,18 +27,21 @@ if TYPE_CHECKING:
 
 GROUPING = 24
 
-# How many nodes of a lattice are guessed for each byte of the line. Where they are more, the lattice is made twice.
+# How many nodes of a lattice are expected for each byte of the line. If there are more, the lattice
+# is made twice.
 NODES = 3
 
-# The codes with which the library sets the number of an image's fault, the place in a format, and the place in a line.
+# The error codes with which the library sets a number of an image, a position in a format, and a
+# position in a line.
 NUMBERED = {0x4C03, 0x4C04, 0x4C05, 0x4C06, 0x4C07, 0x4F02, 0x4F03}
 IN_FORMAT = {0x5001, 0x5002, 0x5003, 0x4703}
 IN_LINE = {0x4B01, 0x4703, 0x4704}
 
-# What each line prints first, where many are printed at once: a code point that Unicode keeps for a program's own use.
+# What each line prints first if many are printed at once: a code point that Unicode reserves for a
+# program's own use.
 MARK = "\uffff"
 
-# The context of handles that no call has. It is that of no call, and keeps none of a caller's variables.
+# The context of handles that no call has. It keeps none of a caller's variables.
 IDLE = Context()
 
 CUT, CUT_LINES, PRINT, FEATURE = (
@@ -50,25 +53,26 @@ CUT, CUT_LINES, PRINT, FEATURE = (
 
 
 def feature_of(number: int) -> Callable[..., int]:
-    """The library's call for the feature of a word, with the word's number filled in."""
+    """Returns the library's call for a feature, with the number of the word filled in."""
     ready = ready_size(number)
     return lambda cutter, *room: int(FEATURE(cutter, ready, *room))
 
 
 def check_image(code: int, number: int) -> None:
-    """Raises why an image was refused, with the number that the library set, where it was."""
+    """Raises the error of an image, with the number if the library has set it."""
     if code != OK:
         raise_fault(code, number if code in NUMBERED else None)
 
 
 class Handle:
-    """A cutter of the library's, with the memory that its answers are written to. It is used by one call at a time, in a context of Python's that
-    is made for that call.
+    """A segmenter of the library, with the buffers that its results are written to.
 
-    What it holds is given back by `close`. Without that it is given back where nothing refers to the slot any more.
+    It is used by one call at a time, in a context of Python's that is made for that call. `close`
+    frees its memory, and so does the end of the last reference to the slot.
 
-    A handler of signals may raise an exception between any two steps, and the handle cuts on. So what is known of the library's state is forgotten
-    before that state is changed, and known again after it.
+    A handler of signals may raise an exception between any two steps, and the handle is used again.
+    So what is known of the library's state is forgotten before the state is changed, and set after
+    it.
     """
 
     def __init__(self) -> None:
@@ -80,16 +84,16 @@ class Handle:
         self.context = IDLE
 
     def close(self) -> None:
-        """Gives back what it holds, and nothing the second time."""
+        """Frees its memory. The second time it does nothing."""
         LIBRARY.free(self._slot)
 
     def forget(self) -> None:
-        """Makes it empty, and gives back nothing."""
+        """Makes it empty, without freeing its memory."""
         self._slot.held = False
         self._slot.mapped = None
 
     def runs(self) -> bool:
-        """Whether a call has it now: a context that is entered can't be entered."""
+        """Returns whether a call has it: a context that is entered can't be entered again."""
         try:
             self.context.run(bool)
         except RuntimeError:
@@ -105,11 +109,11 @@ class Handle:
         self._open(LIBRARY.open, path, test_digest)
 
     def add_user(self, image: Any, length: int, test_digest: bool) -> None:
-        """Lays a user dictionary in memory over the others, before they are shared."""
+        """Adds a user dictionary in memory, before the dictionaries are shared."""
         self._load(LIBRARY.add_user_by, image, length, test_digest)
 
     def open_user(self, path: str, test_digest: bool) -> None:
-        """Lays the user dictionary in a file over the others."""
+        """Adds the user dictionary in a file, before the dictionaries are shared."""
         self._open(LIBRARY.open_user, path, test_digest)
 
     def _load(self, call: Any, image: Any, length: int, test_digest: bool) -> None:
@@ -117,8 +121,8 @@ class Handle:
         check_image(call(self._at, image, length, not test_digest, addressof(number)), number.value)
 
     def _open(self, call: Any, path: str, test_digest: bool) -> None:
-        """Opens a file. If a signal interrupted that, as of a pipe, it is tried again, after the
-        signal's handler has run."""
+        """Opens a file. If a signal interrupts that, as for a pipe, it is tried again after the
+        handler of the signal."""
         name, how = os.fsencode(path), TEST_DIGEST if test_digest else 0
         if b"\0" in name:
             raise ValueError(f"the path of an image has a null character: {path!r}")
@@ -130,7 +134,7 @@ class Handle:
         check_image(code, number.value)
 
     def share(self) -> "Handle":
-        """Another handle over the same dictionaries, with the same format and grouping."""
+        """Returns another handle over the same dictionaries, with the same format and grouping."""
         other = Handle()
         other._texts, other.grouping = self._texts, self.grouping
         code = LIBRARY.share(other._at, self._at)
@@ -139,7 +143,7 @@ class Handle:
         return other
 
     def set_grouping(self, grouping: int, _: object = None) -> None:
-        """How many characters may follow the first one of a grouped unknown word."""
+        """Sets how many characters may follow the first one of a grouped unknown word."""
         self.grouping = None
         code = LIBRARY.set_grouping(self._at, grouping)
         if code != OK:
@@ -147,7 +151,7 @@ class Handle:
         self.grouping = grouping
 
     def told(self, line: bytes, texts: Texts) -> Told:
-        """What the library says of the words of a line, in the texts `WORDS`."""
+        """Returns the total cost, records and texts of a line's words, by the format `WORDS`."""
         if texts is not self._texts:
             self.set_format(texts)
         self._cut(line)
@@ -161,13 +165,13 @@ class Handle:
         return total, records, lines
 
     def _told_apart(self, line: bytes, records: bytes) -> Iterator[str]:
-        """The same where a line feed stands in a feature."""
+        """Yields the texts of a line's words one by one, in case a feature has a line feed."""
         for number, (_, start, end, *_) in enumerate(FIELDS.iter_unpack(records)):
             yield line[start:end].decode()
             yield self._buffers.text_of(feature_of(number), self._at)
 
     def latticed(self, line: bytes, _: object) -> Told:
-        """What the library says of the nodes of a line's lattice."""
+        """Returns the total cost, records and texts of the nodes of a line's lattice."""
         self._cut(line)
         total = self._buffers.total.value
         records = self._buffers.nodes_of(self._at, NODES * len(line) + 1)
@@ -183,7 +187,7 @@ class Handle:
         return total, records, texts
 
     def _entry_feature(self, known: int, dictionary: int, token: int) -> str:
-        """The feature of an entry of the dictionaries."""
+        """Returns the feature of an entry of the dictionaries."""
         buffers = self._buffers
         code = LIBRARY.entry_feature(
             self._at, known, dictionary, token, buffers.out_at, buffers.length_at
@@ -193,13 +197,16 @@ class Handle:
         return buffers.text_lent()
 
     def surfaces(self, line: bytes, texts: Texts) -> List[str]:
-        """The surfaces of a line's words, in the texts `SURFACES`."""
+        """Returns the surfaces of a line's words, by the format `SURFACES`."""
         lines = self.printed(line, texts).split("\n")
         lines.pop()
         return lines
 
     def printed(self, line: bytes, texts: Texts) -> str:
-        """The text of a line, which may have its own end, in the four texts of a format. The library cuts and prints it in one call."""
+        """Returns the text of a line in a format. The line may have a line feed at its end.
+
+        The library segments and prints it in one call.
+        """
         if texts is not self._texts:
             self.set_format(texts)
         if LINE_FEED in line:
@@ -218,22 +225,23 @@ class Handle:
         return buffers.text_lent()
 
     def _one_line(self, line: bytes) -> bytes:
-        """A line without its own end. The library would cut what has another one as more lines."""
+        """Returns a line without its own line feed. With another one it would be more lines."""
         line = without_end(line)
         if LINE_FEED in line:
             self._cut(line)
         return line
 
     def _refuse(self, line: bytes, code: int) -> None:
-        """Raises why a line was refused. The call that cuts it alone reports the place in it."""
+        """Raises the error of a line. The call that only segments reports the position in it."""
         self._cut(line)
         raise_fault(code)
 
     def joined_lines(self, text: bytes, texts: Texts) -> Answers:
-        """The surfaces of each line of a text with a blank between two, in the texts `WAKATI`.
+        """Returns the surfaces of each line of a text, joined by blanks, by the format `WAKATI`.
 
-        Each line prints a line feed at its end, and no other: a surface is a part of a line, so it has none. What is before it is a blank
-        where the line has words, and that blank is dropped; or else the line feed of the line before.
+        Each line prints a line feed at its end, and no other: a surface is a part of a line, so it
+        has none. If the line has words a blank precedes the line feed and is dropped. Otherwise the
+        line feed of the line before precedes it.
         """
         printed, _, fault = self._cut_lines(text, texts)
         answers = printed.replace(" \n", "\n").split("\n")
@@ -241,12 +249,13 @@ class Handle:
         return answers, fault
 
     def printed_lines(self, text: bytes, texts: Texts) -> Answers:
-        """The text of each line of a text in a format.
+        """Returns the text of each line of a text in a format.
 
-        A mark before each line's output tells it from the one before. No mark is ruled out of the outputs: a format's texts are UTF-8, and
-        surfaces, features and the format itself may have any character. But each line prints the mark once, before all else. So where the
-        marks are as many as the lines, none stands in an output, and what is between two of them is one line's. Where they are more, the
-        lines are cut one by one.
+        A mark before the output of each line separates it from the one before. Any mark may occur
+        in an output, because surfaces, features and the format may have any character. But each
+        line prints the mark once, before all else. So if there are as many marks as lines, no
+        output has one, and the text between two marks is the output of one line. If there are
+        more, the lines are segmented one by one.
         """
         node, unk, bos, eos = texts
         printed, count, fault = self._cut_lines(text, (node, unk, MARK.encode() + bos, eos))
@@ -256,8 +265,11 @@ class Handle:
         return answers[1:], fault
 
     def _cut_lines(self, text: bytes, texts: Texts) -> Tuple[str, int, Optional[Exception]]:
-        """What the lines of a text print in a format, one after another, up to the first that is refused; how many they are; and why that
-        one is refused. The library cuts all of them in one call."""
+        """Segments all lines of a text by one call of the library.
+
+        Returns their output in a format up to the first invalid line, how many lines precede it,
+        and its error.
+        """
         self.set_format(texts)
         buffers = self._buffers
         code = CUT_LINES(
@@ -274,7 +286,7 @@ class Handle:
         return printed, buffers.lines.value, None
 
     def _one_by_one(self, lines: List[bytes], texts: Texts) -> Answers:
-        """The text of each line in a format, by a call for each."""
+        """Returns the text of each line in a format, by one call for each."""
         answers: List[str] = []
         try:
             for line in lines:
@@ -297,7 +309,7 @@ class Handle:
             raise_fault(code, at=buffers.place.value if code in IN_LINE else None)
 
     def set_format(self, texts: Texts) -> None:
-        """Sets the four texts of the format, where they are others."""
+        """Sets the format, unless it is set already."""
         if texts == self._texts:
             return
         part, at = c_uint32(), c_size_t()

@@ -1,4 +1,4 @@
-"""Handles for the threads that call one cutter."""
+"""Handles for the threads that call one Cutter."""
 from __future__ import annotations
 
 import os
@@ -19,19 +19,23 @@ if TYPE_CHECKING:
     B = TypeVar("B")
     T = TypeVar("T")
 
-# How often `close` looks whether the calls of other threads have ended, in seconds.
+# How many seconds `close` waits before it checks again whether calls of other threads have ended.
 LOOK = 0.001
 
 
 class Handles:
-    """Handles over the same dictionaries. Each call takes one and gives it back, so that as many are made as calls run at once.
+    """Handles over the same dictionaries. Each call takes one and returns it, so there are as many
+    as calls that run at once.
 
-    A handler of signals may raise an exception between any two steps of a thread, also before the first one of a `finally`. So no step here is owed
-    for another one. There is no lock to let go, and no count to put right. A handle that a call has stands in no list. Where an exception keeps it
-    from being given back, it ends as any object to which nothing refers. Whether a call has a handle is known by a context. `Context.run` enters it,
-    calls, and leaves it whatever the call raises. That is one call of C, and no handler comes between its parts and the call.
+    A handler of signals may raise an exception between any two steps of a thread, also before the
+    first step of a `finally`. So no step here has to be undone by a later one: there is no lock to
+    release, and no count to correct. A handle that a call has is in no list. If an exception keeps
+    it from being returned, it ends as any object without references. Whether a call has a handle is
+    known by a context. `Context.run` enters it, calls, and leaves it whatever the call raises. That
+    is one call of C, and no handler runs between its parts and the call.
 
-    The first one never cuts: the others are shared from it. So it is at rest whenever a process forks, whatever the threads do.
+    The first handle never segments: the others are shared from it. So no call has it when a process
+    forks, whatever the threads do.
     """
 
     def __init__(self, first: Handle) -> None:
@@ -43,7 +47,7 @@ class Handles:
         ALL.add(weakref.ref(self, ALL.discard))
 
     def call(self, what: Callable[[Handle, A, B], T], first: A, second: B) -> T:
-        """What a method of Handle's answers to what it is given, with a handle that no other call has."""
+        """Returns the result of a method of Handle, with a handle that no other call has."""
         try:
             handle = self._free.pop()
         except IndexError:
@@ -58,12 +62,15 @@ class Handles:
                 self._clear()
 
     def set_grouping(self, grouping: int) -> None:
-        """How many characters may follow the first one of a grouped unknown word, for the calls that begin later."""
+        """Sets how many characters may follow the first one of a grouped unknown word.
+
+        It applies to the calls that start later.
+        """
         self.call(Handle.set_grouping, grouping, None)
         self.grouping = grouping
 
     def share(self) -> "Handles":
-        """Others over the same dictionaries, with the same grouping, which are closed by themselves."""
+        """Returns others over the same dictionaries, with the same grouping. They close apart."""
         other = Handles(self._shared())
         other.grouping = self.grouping
         return other
@@ -83,20 +90,25 @@ class Handles:
             raise
 
     def look(self) -> None:
-        """What is closed says so."""
+        """Raises ValueError if it is closed."""
         if self.closed:
             raise ValueError("the cutter is closed") from None
 
     def close(self) -> None:
-        """Gives back what all of them hold, after the calls of other threads have ended. A call of this thread's own, out of which a
-        handler of signals may have come here, gives back its own handle."""
+        """Frees the memory of all handles, after the calls of other threads have ended.
+
+        A call of this thread, in which a handler of signals may have come here, closes its handle.
+        """
         self.closed = True
         self._first.close()
         while not self._clear():
             time.sleep(LOOK)
 
     def _clear(self) -> bool:
-        """Of a closed cutter, gives back what the handles hold that no call has; whether no call of another thread has one."""
+        """Closes the handles that no call has.
+
+        Returns whether no call of another thread has one.
+        """
         self._free.clear()
         running = set(self.running())
         for handle in self._there():
@@ -105,14 +117,17 @@ class Handles:
         return running <= own()
 
     def running(self) -> List[Handle]:
-        """Those that a call has."""
+        """Returns the handles that calls have."""
         return [handle for handle in self._there() if handle.runs()]
 
     def _there(self) -> List[Handle]:
         return [handle for handle in [known() for known in list(self._made)] if handle is not None]
 
     def after_fork(self) -> None:
-        """In the child of a fork. What other threads had stands in the middle of a call for ever, so it is neither used nor freed."""
+        """Forgets the handles of other threads, in the child of a fork.
+
+        They are within a call for ever, so they are neither used nor freed.
+        """
         for handle in set(self.running()) - own():
             handle.forget()
             self._made.discard(weakref.ref(handle))
@@ -121,8 +136,12 @@ class Handles:
 def within(
     handles: Handles, what: Callable[[Handle, A, B], T], handle: Handle, first: A, second: B
 ) -> T:
-    """A call itself, in the handle's context. `close` says that it closes, and then looks for contexts that are entered. So it finds this one, or
-    this call finds that it closes. It is no method, which Python would make anew for each call."""
+    """Makes a call in the handle's context.
+
+    `close` sets `closed` first, and then searches for contexts that are entered. So either it finds
+    this one, or this call finds `closed`. It is no method, because Python would make a new bound
+    method for each call.
+    """
     if handles.closed or handle.grouping != handles.grouping:
         handles.look()
         handle.set_grouping(handles.grouping)
@@ -130,7 +149,7 @@ def within(
 
 
 def own() -> Set[Handle]:
-    """The handles that calls of this thread have, out of which a handler of signals came here."""
+    """Returns the handles of calls of this thread, which a handler of signals interrupted."""
     found: Set[Handle] = set()
     frame: Optional[FrameType] = sys._getframe()
     while frame is not None:
@@ -140,7 +159,7 @@ def own() -> Set[Handle]:
     return found
 
 
-# What is called where one of them ends is C's, as for a handle.
+# Their destructors are in C, as for a handle.
 ALL: Set["weakref.ref[Handles]"] = set()
 
 

@@ -26,15 +26,17 @@ ENDING = ".img"
 # How many bytes a path or a list has room for at first.
 ROOM = 512
 
-# How the image of a system dictionary begins: what it is, its layout, and that it is no user's. (docs/FORMAT.md)
+# How the image of a system dictionary starts: the magic bytes, and the kind. (docs/FORMAT.md)
 MAGIC = b"MJDICT\r\n"
 KIND = slice(12, 16)
 SYSTEM = bytes(4)
 
 
 def prefixes() -> List[str]:
-    """Returns the prefixes whose image directories are searched: of the `jseg` that a shell runs, of
-    this Python, /usr/local and /usr."""
+    """Returns the prefixes whose image directories are searched.
+
+    They are those of the `jseg` that a shell runs and of this Python, /usr/local and /usr.
+    """
     jseg = program_of_shell("jseg")
     own = [os.path.dirname(os.path.dirname(os.path.realpath(jseg)))] if jseg else []
     return list(dict.fromkeys([*own, sys.prefix, "/usr/local", "/usr"]))
@@ -110,7 +112,7 @@ def dictionaries() -> Dict[str, str]:
 
 
 def is_system(path: str) -> bool:
-    """Whether a file begins as a system dictionary does. One that can't be read is none."""
+    """Returns whether a file starts as a system dictionary. One that can't be read does not."""
     try:
         with open(path, "rb") as file:
             begin = file.read(KIND.stop)
@@ -140,7 +142,10 @@ def told_installed(installed: Dict[str, str]) -> str:
 
 
 def default() -> str:
-    """The dictionary of a caller who names none: that of the variable, which may name a folder too, or the only one that is installed."""
+    """Returns the dictionary of a caller who names none.
+
+    It is the one that the variable names, which may be a folder, or the only one that is installed.
+    """
     name = os.environ.get(VARIABLE)
     if name:
         return os.path.join(name, IMAGE) if os.path.isdir(name) else name
@@ -153,13 +158,13 @@ def default() -> str:
 
 
 def paths_of(origin: Origin) -> Tuple[str, ...]:
-    """The paths of the images that a cutter was made of."""
+    """Returns the paths of the images that a Cutter was made of."""
     image, users, _ = origin
     return tuple(map(path_of, (image, *users)))
 
 
 def origin_of(image: Image, users: Sequence[Image], test_digest: bool) -> Optional[Origin]:
-    """What a cutter of these images is made of; None where one is in memory."""
+    """Returns what a Cutter of these images is made of, or None if one is in memory."""
     names = [name_of(one) for one in (image, *users) if isinstance(one, (str, os.PathLike))]
     return (names[0], tuple(names[1:]), test_digest) if len(names) == 1 + len(users) else None
 
@@ -188,8 +193,8 @@ def hand(
     take_file: Callable[[str, bool], None],
     test_digest: bool,
 ) -> None:
-    """Hands an image to a call of the library, with whether its digest is tested: the path of a
-    file, or bytes in memory and their length."""
+    """Calls the library with an image: `take_file` with the path of a file, or `take` with bytes in
+    memory and their length. `test_digest` is whether the checksum is tested."""
     if isinstance(image, (str, os.PathLike)):
         take_file(path_of(image), test_digest)
     else:
@@ -197,9 +202,11 @@ def hand(
 
 
 def lent(image: Any) -> Tuple[Any, int]:
-    """Bytes in memory, as the library takes them, and their length. What may not be written has no
-    address for ctypes, so it is copied. Of a class of a caller's own the buffer counts, whatever
-    its methods say."""
+    """Returns the bytes of an image, as the library takes them, and their length.
+
+    A buffer that is read-only has no address for ctypes, so it is copied. Of a subclass of a
+    caller's own the buffer counts, whatever its methods return.
+    """
     if type(image) is bytes:
         return image, len(image)
     try:

@@ -1,4 +1,4 @@
-"""The lattice of a line: each word that some chain of words from its beginning reaches, on the best path or not."""
+"""The lattice of a line: each word that some path from its start reaches."""
 from bisect import bisect_left
 from itertools import count
 from operator import itemgetter
@@ -12,7 +12,8 @@ from ._words import Line, Word, Words, of_record
 if TYPE_CHECKING:
     from ._handle import Told
 
-# The program that draws, and for how many seconds it may draw a lattice that is shown. A larger one is shown as a table.
+# The program that draws, and how many seconds it may take. A lattice that takes longer is shown as
+# a table.
 DOT = "dot"
 DRAWING = 10
 
@@ -20,7 +21,7 @@ HEAD = ["surface", "feature", "best", "cost", "total", "through", "lost"]
 
 
 class NodesLine(Line):
-    """What the nodes of a line have in common, with the cost of its best path."""
+    """What the nodes of a line share, with the cost of its best path."""
 
     __slots__ = ("total", "_characters")
 
@@ -32,14 +33,14 @@ class NodesLine(Line):
         self._characters: Dict[int, int] = {}
 
     def place(self, number: int) -> Tuple[int, int]:
-        """Nodes overlap, so each end is looked up by its byte."""
+        """Returns the start and end of a node in characters, which are looked up by bytes."""
         if not self._characters:
             self._characters = dict(self._numbered())
         _, start, end, *_ = self.record(number)
         return self._characters[start], self._characters[end]
 
     def _numbered(self) -> Iterator[Tuple[int, int]]:
-        """Each character's byte with its number, and the line's end."""
+        """Yields the byte offset of each character with its number, and those of the line's end."""
         at = 0
         text = self.text.decode()
         for number, sign in enumerate(text):
@@ -49,26 +50,26 @@ class NodesLine(Line):
 
 
 class Node(Word):
-    """A word of a lattice. It has the attributes of a `Word`, and what the paths of the line cost that have it."""
+    """A word of a lattice, with the attributes of a `Word` and the costs of its paths."""
 
     __slots__ = ()
 
     _line: NodesLine
 
-    byte_place = of_record(0, "Where the blanks before it begin in the line, in bytes of UTF-8.")
+    byte_place = of_record(0, "The start of the blanks before it in the line, in bytes of UTF-8.")
     total = of_record(
-        10, "The least cost of the chains from the line's beginning up to and with it."
+        10, "Its forward cost: the least cost of the paths from the line's start up to and with it."
     )
 
     @property
     def through(self) -> Optional[int]:
-        """The least cost of the paths of the whole line that have it; None where no path has it."""
+        """The least cost of the paths of the whole line that have it. None if no path has it."""
         cost, reaches_end = self._line.record(self._number)[12:14]
         return cost if reaches_end else None
 
     @property
     def lost(self) -> Optional[int]:
-        """What it lost by: how much more the best path costs that has it than the best path of all. None where no path has it."""
+        """How much more than the best path the best path with it costs. None if no path has it."""
         through = self.through
         return None if through is None else through - self._line.total
 
@@ -85,12 +86,15 @@ class Node(Word):
             if self.best
             else f"lost by {self.lost}"
         )
-        return f"<Node {self.surface} {self.feature} {self.start}:{self.end} cost {self.cost}{'' if self.known else ' unknown'} {lost}>"
+        return f"<Node {self._summary()} {lost}>"
 
 
 class Rival(NamedTuple):
-    """A word of the best path, and the node that lost by least of those that cover where it begins and have other boundaries, with what it lost by.
-    Where none does, both are None."""
+    """A word of the best path, and its rival.
+
+    The rival is the node that lost by least, of those that cover the start of the word and have
+    other boundaries. `lost` is what it lost by. If there is none, both are None.
+    """
 
     word: Node
     node: Optional[Node]
@@ -98,8 +102,12 @@ class Rival(NamedTuple):
 
 
 class Lattice:
-    """The lattice of a line. `nodes` are by place, and those of a place in the order by which ties are decided; `total` is the cost of the best
-    path. Shown, it is drawn where Graphviz's `dot` is installed, and else a table."""
+    """The lattice of a line.
+
+    `nodes` are sorted by position, and those of a position in the order that decides ties. `total`
+    is the cost of the best path. A notebook shows a drawing if Graphviz's `dot` is installed, or
+    else a table.
+    """
 
     __slots__ = ("nodes", "total", "_text", "_svg")
 
@@ -114,8 +122,10 @@ class Lattice:
         return words
 
     def rivals(self) -> List[Rival]:
-        """For each word of the best path the best of the paths that have no word with its
-        boundaries. The nodes are sorted once, so n nodes take time in n log n."""
+        """Returns for each word of the best path the node of the best path without its boundaries.
+
+        The nodes are sorted once, so n nodes take O(n log n).
+        """
         rivals = [Rival(node, None, None) for node in self.nodes if node.best]
         places = [rival.word.byte_place for rival in rivals]
         boundaries = {(rival.word.byte_place, rival.word.byte_end) for rival in rivals}
@@ -128,9 +138,12 @@ class Lattice:
         return rivals
 
     def to_dot(self, within: Optional[int] = None) -> str:
-        """The lattice as a graph for Graphviz, as `jseg --lattice dot` prints it: places from left to right, and between two places the words there,
-        with the first field of their feature, their costs and what they lost by. The best path is red. With `within` only nodes that lost by at most
-        so much."""
+        """Returns the lattice as a graph for Graphviz, as `jseg --lattice dot` prints it.
+
+        It has the positions from left to right, and between two positions the words there, with the
+        first field of their feature, their costs and what they lost by. The best path is red. With
+        `within` it has only nodes that lost by at most so much.
+        """
         return dot_of(
             self._text,
             [(number, node) for number, node in enumerate(self.nodes) if is_near(node, within)],
@@ -150,18 +163,20 @@ class Lattice:
             return self._svg
 
     def _repr_html_(self) -> Optional[str]:
-        """None where it is drawn: a notebook would take the table."""
+        """Returns None if there is a drawing, because a notebook would prefer the table."""
         return html_of(*self._columns()) if self._repr_svg_() is None else None
 
 
 def is_near(node: Node, within: Optional[int]) -> bool:
-    """Whether a node lost by at most so much, where that is asked for."""
+    """Returns whether a node lost by at most `within`. None is no limit."""
     return within is None or (node.lost is not None and node.lost <= within)
 
 
 def by_lost(nodes: List[Node]) -> List[Tuple[int, Node]]:
-    """Returns the nodes that some path has, each with what it lost by, sorted by that. Nodes that
-    lost by as much keep their order."""
+    """Returns the nodes that some path has, each with what it lost by, sorted by that.
+
+    Nodes that lost by as much keep their order.
+    """
     each = ((node.lost, node) for node in nodes)
     return sorted(((lost, node) for lost, node in each if lost is not None), key=itemgetter(0))
 
@@ -169,12 +184,11 @@ def by_lost(nodes: List[Node]) -> List[Tuple[int, Node]]:
 class Free:
     """The words of the best path that have no rival yet, by their numbers.
 
-    A node takes the place of each word whose beginning it covers, unless it has the boundaries of
-    that word. A word begins with the blanks before it, so each word ends where the next one begins.
-    A node with the boundaries of a word covers the beginning of no other word. Any other node takes
-    the place of a run of words. The nodes come in the order of what they lost by, so a node is the
-    rival of those words of its run that are still free. Words that are not free are skipped by
-    union-find.
+    A node replaces each word whose start it covers, unless it has the boundaries of that word. A
+    word starts with the blanks before it, so each word ends at the start of the next one. A node
+    with the boundaries of a word covers the start of no other word. Any other node replaces a run
+    of words. The nodes come in the order of what they lost by, so a node is the rival of those
+    words of its run that are still free. Words that are not free are skipped by union-find.
     """
 
     def __init__(self, count: int) -> None:
@@ -197,13 +211,16 @@ class Free:
 
 
 def told(value: Any) -> str:
-    """A value in a table."""
+    """Returns the text of a value in a table."""
     return "" if value is None or value is False else "*" if value is True else str(value)
 
 
 def drawn(graph: str) -> Optional[str]:
-    """A graph as Graphviz draws it, as SVG without what stands before its element; None where `dot` is not there, or takes too long."""
-    # Most programs draw nothing, and an import of these takes as long as a load.
+    """Draws a graph by Graphviz, and returns the SVG element.
+
+    It is None if `dot` is missing, fails or takes too long.
+    """
+    # Most programs draw nothing, and the import of these takes as long as a load.
     import shutil
     import subprocess
 
@@ -221,7 +238,7 @@ def drawn(graph: str) -> Optional[str]:
 
 
 def lattice_of(text: bytes, told_nodes: "Told", names: Dict[str, int]) -> Lattice:
-    """The lattice of a line, of what a handle told of it."""
+    """Returns the lattice of a line from the total cost, records and texts of its nodes."""
     total, records, texts = told_nodes
     line, each = NodesLine(text, records, names, total), iter(texts)
     nodes: List[Node] = []

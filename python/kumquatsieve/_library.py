@@ -1,4 +1,4 @@
-"""The shared library, and its calls."""
+"""The shared library and its calls."""
 from __future__ import annotations
 
 import ctypes
@@ -20,22 +20,24 @@ LINE_FEED = 0x4B01
 SHORT_BUFFER = 0x4B07
 PARTS = ("node", "unk", "bos", "eos")
 
-# How an image file is opened for which each test is made, the SHA-256 included.
+# The flag with which an image file is opened if each test is made, that of the SHA-256 too.
 TEST_DIGEST = 2
 
-# The calls that may take long, during which other threads run. During the others none does, so no fork of another thread's falls into one.
+# The calls that may take long. Other threads run during them. During the other calls no thread
+# runs, so no other thread forks during one.
 LONG = ("load_by", "open", "add_user_by", "open_user", "cut", "cut_lines", "copy_print", "nodes")
 
-# The calls that are made for each line. To convert an argument takes ctypes longer than many a call, so these are given nothing that it would
-# convert: bytes, what `byref` makes of an output, which is made once, and what `ready_size` makes of a number.
+# The calls that are made for each line. The conversion of an argument by ctypes takes longer than
+# many a call, so these take what is not converted: bytes, the result of `byref` for an output,
+# which is made once, and the result of `ready_size` for a number.
 READY = ("cut", "cut_lines", "words", "copy_print", "copy_feature", "nodes")
 
-# Makes a size of a number, which has as many bytes as an address.
+# Makes a `size_t` of a number. It has as many bytes as an address.
 ready_size: Callable[[int], Any] = ctypes.c_void_p.from_param
 
 
 class Slot(ctypes.Structure):
-    """What the library keeps of a cutter. Where nobody has it any more it is given back, by `free` as `__del__`."""
+    """What the library stores of a segmenter. Its destructor is the library's `free`."""
 
     _fields_ = [("held", ctypes.c_bool), ("at", ctypes.c_void_p), ("mapped", ctypes.c_void_p)]
 
@@ -71,13 +73,19 @@ class NodeRecord(ctypes.Structure):
 
 
 def place() -> str:
-    """Where the library is: what the variable names, else beside this module, else where the loader looks."""
+    """Returns the path of the library: the one that the variable names, or beside this module.
+
+    If there is none it is the name alone, which the loader searches for.
+    """
     beside = os.path.join(os.path.dirname(os.path.realpath(__file__)), NAME)
     return os.environ.get(VARIABLE) or (beside if os.path.exists(beside) else NAME)
 
 
 def arguments() -> Dict[str, Optional[List[Any]]]:
-    """The types of each call's arguments, none for those in `READY`; a text is its bytes and their length."""
+    """Returns the types of each call's arguments, and None for those in `READY`.
+
+    A text is its bytes and their length.
+    """
     address, size = ctypes.c_void_p, ctypes.c_size_t
     text = [ctypes.c_char_p, size]
     listed = [*text, address]
@@ -101,16 +109,20 @@ def arguments() -> Dict[str, Optional[List[Any]]]:
 
 
 def check_lock() -> None:
-    """Without Python's own lock two threads would make calls that are not `LONG` with one handle at once."""
+    """Checks that Python has its lock.
+
+    Without it two threads would make calls that are not `LONG` at once with one handle.
+    """
     has_lock = getattr(sys, "_is_gil_enabled", None)
     if has_lock is not None and not has_lock():
         raise ImportError(
-            "this Python runs threads without its lock (GIL), and kumquatsieve needs it: PYTHON_GIL=1 or -X gil=1 turns it on"
+            "this Python runs threads without its lock (GIL), and kumquatsieve needs it: "
+            "PYTHON_GIL=1 or -X gil=1 turns it on"
         )
 
 
 def load() -> SimpleNamespace:
-    """The library's calls by their names, with the types of their arguments."""
+    """Returns the library's calls by their names, with the types of their arguments."""
     check_lock()
     try:
         alone, beside_others = ctypes.PyDLL(place()), ctypes.CDLL(place())
@@ -137,9 +149,13 @@ def call_of(library: ctypes.CDLL, name: str) -> Any:
 
 
 def method_of(call: Any) -> Any:
-    """A call as a method, which Python's own C binds. An exception of a handler of signals is lost in a method of Python's that is called where
-    something ends, and what that was to do is not done. None comes between the steps of this one. A program that has Python inside may hide Python's
-    own calls from ctypes; the method is Python's there."""
+    """Makes a method of a call, which is bound by Python's own C.
+
+    If a handler of signals raises an exception in a destructor in Python, the exception is lost,
+    and so are the remaining steps of the destructor. No handler runs between the steps of this one.
+    A program that embeds Python may hide Python's own calls from ctypes. There the method is in
+    Python.
+    """
     try:
         make = ctypes.PyDLL(None).PyInstanceMethod_New
     except AttributeError:

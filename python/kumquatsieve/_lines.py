@@ -1,4 +1,4 @@
-"""What a cutter answers to many lines."""
+"""The results of many lines."""
 from itertools import chain
 from typing import TYPE_CHECKING, Callable, Generic, Iterator, List, TypeVar
 
@@ -13,8 +13,10 @@ T = TypeVar("T")
 
 
 class Lines(Generic[T]):
-    """What a cutter answers to each line of a source, an iterator. `replaced` is how many U+FFFD were put in so far for what is no
-    UTF-8."""
+    """An iterator over the results of each line of a source.
+
+    `replaced` is how many U+FFFD have replaced bytes that are not UTF-8 so far.
+    """
 
     def __init__(self, errors: str, begin: Callable[[Encoder], Iterator[T]]) -> None:
         self._encoder = Encoder(errors)
@@ -32,7 +34,7 @@ class Lines(Generic[T]):
 
 
 def one_by_one(source: Source, answer: Callable[[bytes], T]) -> Callable[[Encoder], Iterator[T]]:
-    """Each line's answer as soon as the line is there."""
+    """Returns a function that starts an iterator over the result of each line, line by line."""
 
     def begin(encoder: Encoder) -> Iterator[T]:
         for number, line in enumerate(lines_as_they_come(source, encoder), 1):
@@ -48,7 +50,10 @@ def one_by_one(source: Source, answer: Callable[[bytes], T]) -> Callable[[Encode
 def many_at_once(
     source: Source, answer: "Callable[[bytes], Answers]"
 ) -> Callable[[Encoder], Iterator[str]]:
-    """The answers to about a megabyte of lines at once. Those before a fault come before it."""
+    """Returns a function that starts an iterator over the results, a megabyte of lines at a time.
+
+    The results of the lines before an error precede it.
+    """
 
     def batches(encoder: Encoder) -> Iterator[List[str]]:
         number = 0
@@ -63,17 +68,17 @@ def many_at_once(
 
 
 def lines_one_by_one(errors: str, source: Source, answer: Callable[[bytes], T]) -> Lines[T]:
-    """What a cutter answers to each line of a source, as soon as the line is there."""
+    """Returns an iterator over the result of each line, as soon as the line is there."""
     return Lines(errors, one_by_one(checked(source), answer))
 
 
 def lines_at_once(errors: str, source: Source, answer: "Callable[[bytes], Answers]") -> Lines[str]:
-    """What a cutter answers to each line of a source, of which it gets a megabyte at once."""
+    """Returns an iterator over the result of each line. The source is read by the megabyte."""
     return Lines(errors, many_at_once(checked(source), answer))
 
 
 def placed(fault: Exception, number: int) -> Exception:
-    """A fault that says which line was refused."""
+    """Returns an error with the number of its line."""
     return (
         Fault(fault.code, fault.name, fault.number, fault.part, number, fault.at)
         if isinstance(fault, Fault)

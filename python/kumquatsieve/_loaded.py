@@ -1,4 +1,4 @@
-"""Dictionaries that this process has, for the cutters that come to it from another one."""
+"""The dictionaries of this process, for Cutters that come from another process."""
 from __future__ import annotations
 
 import os
@@ -15,7 +15,7 @@ if TYPE_CHECKING:
 
     from ._images import Image, Origin
 
-    # The files of an origin as they are now: another file of the same path is another image.
+    # An origin, and what identifies its files. Another file of the same path is another image.
     Key = Tuple[Origin, Tuple[Tuple[int, ...], ...]]
 
 
@@ -25,13 +25,15 @@ def key_of(origin: Origin) -> Key:
 
 
 def identity_of(stat: os.stat_result) -> Tuple[int, ...]:
-    """What tells a file from others, and from what it was before a change. The library tells the
-    files that it has mapped by the same."""
+    """Returns what distinguishes a file from others, and from the same file before a change.
+
+    The library distinguishes the files that it has mapped by the same numbers.
+    """
     return stat.st_dev, stat.st_ino, stat.st_size, stat.st_mtime_ns, stat.st_ctime_ns
 
 
 def load(image: Image, users: Sequence[Image], test_digest: bool) -> Handle:
-    """A handle of a system dictionary with users' laid over it."""
+    """Returns a handle of a system dictionary and of user dictionaries."""
     handle = Handle()
     hand(image, handle.load, handle.open, test_digest)
     for user in users:
@@ -42,8 +44,9 @@ def load(image: Image, users: Sequence[Image], test_digest: bool) -> Handle:
 class Loaded:
     """The dictionaries of this process, by the files that they were loaded from.
 
-    Those of cutters are known as long as the cutters are there. Those that a cutter from another process asked for are kept till this
-    process ends, so that they are loaded once, however many tasks bring the cutter.
+    Those of Cutters are known as long as the Cutters exist. Those of a Cutter from another process
+    are kept until this process ends, so that they are loaded once, however many tasks bring the
+    Cutter.
     """
 
     def __init__(self) -> None:
@@ -52,12 +55,14 @@ class Loaded:
         self.begin()
 
     def begin(self) -> None:
-        """Also in the child of a fork, where the thread that had the lock may be none of its own."""
+        """Starts without a lock, also in the child of a fork, which has no thread to release it."""
         self._locks: Dict[str, threading.RLock] = {}
 
     def _lock(self) -> threading.RLock:
-        """Returns the lock. It is made at the first call, since most programs need none, and the
-        import of `threading` takes a millisecond. If two threads make one, the first one is kept.
+        """Returns the lock.
+
+        It is made at the first call, because most programs need none, and the import of `threading`
+        takes a millisecond. If two threads make one, the first one is kept.
         """
         from threading import RLock
 
@@ -66,7 +71,7 @@ class Loaded:
     def new(
         self, origin: Optional[Origin], image: Image, users: Sequence[Image], test_digest: bool
     ) -> Handles:
-        """Loads images for a cutter."""
+        """Loads the images of a new Cutter."""
         key = key_of(origin) if origin else None
         handles = Handles(load(image, users, test_digest))
         if key:
@@ -74,13 +79,17 @@ class Loaded:
         return handles
 
     def _know(self, key: Key, handles: Handles) -> None:
-        """Those that are gone are forgotten here, since Python's own dictionary of what may go calls functions of Python's where something ends."""
+        """Adds the handles of a key, and removes those that have ended.
+
+        `WeakValueDictionary` would remove them in functions of Python's, which are called as
+        destructors.
+        """
         for gone in [known for known, found in list(self._known.items()) if found() is None]:
             self._known.pop(gone, None)
         self._known[key] = weakref.ref(handles)
 
     def again(self, origin: Origin) -> Handles:
-        """What a cutter of this origin cuts with that came from another process."""
+        """Returns the handles of a Cutter that came from another process."""
         key = key_of(origin)
         with self._lock():
             there, kept = self._kept.get(origin, (None, None))
@@ -90,7 +99,7 @@ class Loaded:
             return kept.share()
 
     def _shared(self, key: Key) -> Optional[Handles]:
-        """Handles over the dictionaries of a cutter that is there and not closed."""
+        """Returns handles over the dictionaries of a Cutter that exists and is not closed."""
         known = self._known.get(key)
         handles = known() if known else None
         try:

@@ -1,4 +1,4 @@
-"""Lines of texts, of files and of whatever has lines."""
+"""The lines of texts, of files and of iterables."""
 import mmap
 from typing import IO, Any, Iterable, Iterator, List, Optional, Union
 
@@ -11,24 +11,24 @@ Source = Union[Text, IO[str], IO[bytes], Iterable[Union[str, bytes]]]
 
 TEXTS = (str, bytes, bytearray, memoryview, mmap.mmap)
 
-# What has one of these can be iterated.
+# The methods of what can be iterated.
 ITERABLE = ("__iter__", "__getitem__")
 
-# How much is read at once, in characters or bytes, and from how many bytes on a line is too long for the library, its carriage return
-# with it.
+# How much is read at once, in characters or bytes, and from how many bytes on a line, with its
+# carriage return, is too long for the library.
 PIECE = 1_000_000
 TOO_LONG = 2**20 + 2
 
 
 def checked(source: Source) -> Source:
-    """A source, where it is one."""
+    """Returns a source, or raises TypeError if it is none."""
     if isinstance(source, TEXTS) or any(hasattr(source, name) for name in ("read", *ITERABLE)):
         return source
     raise TypeError(f"a source is a text, an open file or lines, not {type(source).__name__}")
 
 
 def lines_as_they_come(source: Source, encoder: Encoder) -> Iterator[bytes]:
-    """Each line without its end, when the source has it."""
+    """Yields each line without its line feed, as soon as the source has it."""
     if isinstance(source, TEXTS) or not any(hasattr(source, name) for name in ITERABLE):
         for text in pieces(source, encoder):
             yield from lines_of(text)
@@ -45,7 +45,10 @@ def of_line(line: object, number: int, encoder: Encoder) -> bytes:
 
 
 def pieces(source: Source, encoder: Encoder) -> Iterator[bytes]:
-    """The lines, about a megabyte at a time. Each ends in a line feed alone, but the last one may lack it."""
+    """Yields the lines, about a megabyte at a time.
+
+    Each ends with a line feed alone, which the last one may lack.
+    """
     if isinstance(source, TEXTS):
         return map(with_plain_ends, whole_lines(slices(source), encoder))
     if hasattr(source, "read"):
@@ -54,7 +57,7 @@ def pieces(source: Source, encoder: Encoder) -> Iterator[bytes]:
 
 
 def slices(source: Any) -> Iterator[Union[str, bytes]]:
-    """Parts of a text, by what it has and not by what methods of a caller's class say."""
+    """Yields parts of a text, by its contents and not by the methods of a caller's subclass."""
     if isinstance(source, str):
         text = str.__str__(source)
         yield from (text[at : at + PIECE] for at in range(0, len(text), PIECE))
@@ -66,7 +69,7 @@ def slices(source: Any) -> Iterator[Union[str, bytes]]:
 
 
 def slice_of(data: Any, at: int, size: int) -> bytes:
-    """A part of bytes, which may not get longer or shorter meanwhile, as a bytearray may."""
+    """Returns a part of bytes, whose length may not change meanwhile, as of a bytearray."""
     with memoryview(data) as view:
         if view.nbytes != size:
             raise RuntimeError(f"the {type(data).__name__} changed its size while it was cut")
@@ -74,7 +77,7 @@ def slice_of(data: Any, at: int, size: int) -> bytes:
 
 
 def reads(file: Any) -> Iterator[Union[str, bytes]]:
-    """The pieces of a file of text or of bytes."""
+    """Yields the pieces of a file of text or of bytes."""
     first: Optional[type] = None
     while True:
         part = piece_of(file.read(PIECE))
@@ -88,7 +91,7 @@ def reads(file: Any) -> Iterator[Union[str, bytes]]:
 
 
 def piece_of(part: Any) -> Union[str, bytes]:
-    """What a file's read gave, where it is a text or bytes."""
+    """Returns what `read` of a file returned, or raises an error if it is no text or bytes."""
     if part is None:
         raise BlockingIOError("the file has nothing to read now, and doesn't block")
     try:
@@ -99,8 +102,11 @@ def piece_of(part: Any) -> Union[str, bytes]:
 
 
 def whole_lines(parts: Iterator[Union[str, bytes]], encoder: Encoder) -> Iterator[bytes]:
-    """The text of the parts, cut after line feeds. A line that is too long goes on as it is so far:
-    the library refuses it. Each part is looked at once, so a file may give a byte at a time."""
+    """Yields the text of the parts, split after line feeds.
+
+    A line that is too long is yielded as it is so far, and the library rejects it. Each part is
+    processed once, so a file may be read by the byte.
+    """
     line: List[bytes] = []
     size = 0
     for part in parts:
@@ -118,13 +124,16 @@ def whole_lines(parts: Iterator[Union[str, bytes]], encoder: Encoder) -> Iterato
 
 
 def with_plain_ends(text: bytes) -> bytes:
-    """A text whose lines end in a line feed, without the carriage return that may stand before it."""
+    """Removes the carriage returns before line feeds."""
     return text.replace(b"\r\n", b"\n") if b"\r" in text else text
 
 
 def batches(lines: Iterable[Union[str, bytes]], encoder: Encoder) -> Iterator[bytes]:
-    """Lines, so many at once that they are about a megabyte. Those before an item that is no line, or more than one, go first, and so do those
-    before an exception of the iterable's own."""
+    """Yields about a megabyte of lines at a time.
+
+    The lines before an item that is not one line, and those before an exception of the iterable,
+    are yielded before the error.
+    """
     batch: List[bytes] = []
     size = 0
     try:
@@ -142,7 +151,7 @@ def batches(lines: Iterable[Union[str, bytes]], encoder: Encoder) -> Iterator[by
 
 
 def one_line(item: object, number: int, encoder: Encoder) -> bytes:
-    """A line without its own end, in which no other stands."""
+    """Returns a line without its line feed. Another line feed is an error."""
     line = of_line(item, number, encoder)
     if b"\n" in line:
         raise fault_of(LINE_FEED, place=number, at=line.index(b"\n"))

@@ -8,14 +8,17 @@ if TYPE_CHECKING:
 
 SURROGATE = "[\ud800-\udfff]"
 ERRORS = ("strict", "replace")
-# A caller's own kind of str may have another method of this name.
+# A subclass of str may have another method of this name.
 ENCODE = str.encode
-# A byte is looked for by its number: Python asks of each bytes first whether they are one.
+# `in` finds a byte by its number faster than by bytes of length 1.
 LINE_FEED = 0x0A
 
 
 def encoded(text: str, what: str = "a line") -> bytes:
-    """A text in UTF-8. Half of a pair of surrogates is no character, and the library refuses what is made of it."""
+    """Returns a text in UTF-8.
+
+    Half of a pair of surrogates is no character, and the library rejects its bytes.
+    """
     try:
         return ENCODE(text)
     except UnicodeEncodeError:
@@ -25,7 +28,10 @@ def encoded(text: str, what: str = "a line") -> bytes:
 
 
 def line_of(line: str) -> bytes:
-    """A line in UTF-8 without its own end. A caller's own kind of str is taken for its text, and what is like one for none."""
+    """Returns a line in UTF-8 without its line feed.
+
+    Of a subclass of str the text counts. Other types are an error.
+    """
     try:
         text = ENCODE(line)
     except (UnicodeEncodeError, TypeError):
@@ -34,20 +40,22 @@ def line_of(line: str) -> bytes:
 
 
 def bytes_of(data: Any) -> bytes:
-    """The bytes of a buffer. Those of a class of a caller's own are copied, since its methods may
-    say another length than the bytes have."""
+    """Returns the bytes of a buffer.
+
+    Those of a subclass are copied, because its methods may return another length.
+    """
     return data if type(data) is bytes else memoryview(data).tobytes()
 
 
 def without_end(line: bytes) -> bytes:
-    """A line without its own end, a line feed or a carriage return and a line feed."""
+    """Removes the line feed at the end of a line, and the carriage return before it."""
     if line.endswith(b"\n"):
         return line[:-2] if line.endswith(b"\r\n") else line[:-1]
     return line
 
 
 def lines_of(text: bytes) -> List[bytes]:
-    """The lines of a text without their line feeds, which the last one may lack."""
+    """Returns the lines of a text without their line feeds, which the last one may lack."""
     lines = text.split(b"\n")
     if not lines[-1]:
         lines.pop()
@@ -55,7 +63,11 @@ def lines_of(text: bytes) -> List[bytes]:
 
 
 class Encoder:
-    """Makes texts and bytes UTF-8. What is none is left to the library, which refuses it, or replaced by U+FFFD, which is counted."""
+    """Encodes texts and bytes in UTF-8.
+
+    What is not UTF-8 is left to the library, which rejects it, or replaced by U+FFFD. `replaced`
+    counts the latter.
+    """
 
     def __init__(self, errors: str) -> None:
         if errors not in ERRORS:
@@ -64,7 +76,7 @@ class Encoder:
         self.replaced = 0
 
     def of_text(self, text: str) -> bytes:
-        """A text, or a part of one."""
+        """Encodes a text or a part of one."""
         if self._replaces:
             import re
 
@@ -73,7 +85,10 @@ class Encoder:
         return encoded(text)
 
     def of_bytes(self, data: bytes) -> bytes:
-        """Whole lines, so that no character is in two parts. Each replacement is that of Python's decoder."""
+        """Encodes whole lines, so that no character is in two parts.
+
+        The replacements are those of Python's decoder.
+        """
         if not self._replaces:
             return data
         text = data.decode("utf-8", "replace")
@@ -81,7 +96,7 @@ class Encoder:
         return text.encode()
 
     def of_line(self, line: object) -> bytes:
-        """One line, in either form, without its own end."""
+        """Encodes a line, a text or bytes, without its line feed."""
         if isinstance(line, str):
             return without_end(self.of_text(line))
         if isinstance(line, (bytes, bytearray, memoryview)):

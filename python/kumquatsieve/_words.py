@@ -1,4 +1,4 @@
-"""Words of a line, by their attributes."""
+"""The words of a line."""
 from __future__ import annotations
 
 from itertools import count
@@ -12,15 +12,20 @@ if TYPE_CHECKING:
 
     from ._handle import Told
 
-# What a table shows for a reading: the first of these names of fields that a dictionary has. UniDic's `kana` is that of the word as it stands.
+# The reading in a table is the first of these fields that a dictionary has. UniDic's `kana` is the
+# reading of the word as it is written.
 READINGS = ("kana", "reading", "pron")
 
-# What a field of a feature has in MeCab's dictionaries where there is nothing to say.
+# The value of a field in MeCab's dictionaries that has none.
 NOTHING = "*"
 
 
 class Line:
-    """What the words of a line have in common: its text in UTF-8, the library's records, and the names of the dictionary's fields."""
+    """What the words of a line share.
+
+    `text` is the line in UTF-8, `records` are the library's, and `names` are the names of the
+    dictionary's fields with their numbers.
+    """
 
     __slots__ = ("text", "records", "names", "_places")
 
@@ -34,29 +39,32 @@ class Line:
         return self.fields.unpack_from(self.records, number * self.fields.size)
 
     def place(self, number: int) -> Tuple[int, int]:
-        """Where a word begins and ends in characters."""
+        """Returns the start and end of a word in characters."""
         if self._places is None:
             self._places = list(self._counted())
         return self._places[number]
 
     def _counted(self) -> Iterable[Tuple[int, int]]:
-        """Characters are counted from word to word."""
-        characters = behind = 0
+        """Yields the start and end of each word, counting characters from word to word."""
+        characters = previous = 0
         for _, start, end, *_ in FIELDS.iter_unpack(self.records):
-            begin = characters + len(self.text[behind:start].decode())
-            characters, behind = begin + len(self.text[start:end].decode()), end
+            begin = characters + len(self.text[previous:start].decode())
+            characters, previous = begin + len(self.text[start:end].decode()), end
             yield begin, characters
 
 
 def of_record(number: int, what: str) -> Any:
-    """An attribute that is a field of the word's record, by its number among those of `Record`."""
+    """Returns an attribute that reads a field of the word's record, by its number in `Record`."""
     return property(lambda word: word._line.record(word._number)[number], doc=what)
 
 
 class Word:
-    """A word of a line. What isn't its surface or its feature is looked up where it is asked for. A
-    field of the feature that has a name is an attribute too. The attribute is None if the field is
-    `*`, or if the feature of this word is shorter."""
+    """A word of a line.
+
+    Except for its surface and its feature, attributes are looked up when they are read. A field of
+    the feature that has a name is an attribute too. It is None if the field is `*`, or if the
+    feature of this word is shorter.
+    """
 
     __slots__ = ("surface", "feature", "_line", "_number", "_features")
 
@@ -65,11 +73,11 @@ class Word:
     _line: Line
     _number: int
 
-    byte_start = of_record(1, "Where it begins in the line, in bytes of UTF-8.")
-    byte_end = of_record(2, "Where it ends in the line, in bytes of UTF-8.")
-    dictionary = of_record(3, "0 for the system's, 1 and more for the users' in their order.")
+    byte_start = of_record(1, "Its start in the line, in bytes of UTF-8.")
+    byte_end = of_record(2, "Its end in the line, in bytes of UTF-8.")
+    dictionary = of_record(3, "0 for the system dictionary, 1 and more for user dictionaries.")
     token = of_record(
-        4, "The number of its entry in that dictionary; unknown words come behind the lexicon."
+        4, "The number of its entry in that dictionary. Unknown words follow the lexicon."
     )
     left = of_record(5, "The left context id.")
     right = of_record(6, "The right context id.")
@@ -86,12 +94,12 @@ class Word:
 
     @property
     def start(self) -> int:
-        """Where it begins in the line, in characters."""
+        """Its start in the line, in characters."""
         return self._line.place(self._number)[0]
 
     @property
     def end(self) -> int:
-        """Where it ends in the line, in characters."""
+        """Its end in the line, in characters."""
         return self._line.place(self._number)[1]
 
     @property
@@ -110,7 +118,8 @@ class Word:
         if name not in names:
             named = ", ".join(names) or "none"
             raise AttributeError(
-                f"{name}: no attribute of a word, and no name of a field of the dictionary; it names {named}"
+                f"{name}: no attribute of a word, and no name of a field of the dictionary; "
+                f"it names {named}"
             )
         features, number = self.features, names[name]
         field = features[number] if number < len(features) else NOTHING
@@ -120,7 +129,7 @@ class Word:
         return [*object.__dir__(self), *self._line.names]
 
     def _value(self) -> Tuple[Any, ...]:
-        """What it is, without the words before it, which its total has."""
+        """Returns what it is compared by: all but its total, which depends on the words before."""
         return self.surface, self.feature, self._line.record(self._number)[:10]
 
     def __eq__(self, other: object) -> bool:
@@ -130,7 +139,13 @@ class Word:
         return hash(self._value())
 
     def __repr__(self) -> str:
-        return f"<Word {self.surface} {self.feature} {self.start}:{self.end} cost {self.cost}{'' if self.known else ' unknown'}>"
+        return f"<Word {self._summary()}>"
+
+    def _summary(self) -> str:
+        """Returns what `repr` shows of a word and of a node."""
+        unknown = "" if self.known else " unknown"
+        span = f"{self.start}:{self.end}"
+        return f"{self.surface} {self.feature} {span} cost {self.cost}{unknown}"
 
 
 # Names that no field of a dictionary may have: the attributes of a word, and those of a node.
@@ -143,7 +158,7 @@ TAKEN = frozenset(name for name in dir(Word) if not name.startswith("_")) | {
 
 
 class Words(list[Word]):
-    """The words of a line, a list; `total` is the cost of their path. Shown, it is a table."""
+    """The list of the words of a line. `total` is the cost of their path. It prints as a table."""
 
     __slots__ = ("total",)
 
@@ -173,12 +188,12 @@ class Words(list[Word]):
 
 
 def words_of(text: bytes, told: Told, names: Dict[str, int]) -> Words:
-    """The words of a line, of what a handle told of them."""
+    """Returns the words of a line from their total cost, records and texts."""
     total, records, texts = told
     line, each = Line(text, records, names), iter(texts)
     words = Words()
     words.total = total
-    # To call a function of Python's for each word takes longer than to fill it in here.
+    # A function call for each word takes longer than these assignments.
     for surface, feature, number in zip(each, each, count()):
         word = Word()
         word.surface = surface
