@@ -1,38 +1,50 @@
 #!/usr/bin/env python3
-"""Builds the library, links the programs and installs all by rows of words and of the environment: builds --built. The archive and the objects of
-the programs are those in crates/*/out.
+"""Builds the library, links the programs and installs all, with various options and environments.
 
-Both shared libraries are stripped and hardened by what they are compiled with where nothing is said. The programs are hardened too, need the C
-library alone and have the heap of capi/heap.c. The compilers, flags and tools of the environment are taken; a relative PREFIX is made absolute, below
-DESTDIR, for all that is installed; under any umask all users may read what is installed; what can't be done is refused, and nothing is installed
-then. Needs: gcc, g++, binutils and libmecab-dev; where one is not there the status is 77, and nothing was checked.
+    tests/packaging/builds.py --built
+
+The archive and the objects of the programs are those in crates/*/out.
+
+- Both shared libraries are stripped and hardened, by the flags that are the defaults.
+- The programs are hardened too, need the C library alone and have the heap of capi.
+- The compilers, flags and tools of the environment are used.
+- A relative PREFIX is made absolute, below DESTDIR, for all that is installed.
+- Under any umask all users may read what is installed.
+- Invalid options and missing tools are rejected, and then nothing is installed.
+
+Needs: gcc, g++, binutils and libmecab-dev. If one is missing the status is 77.
 """
 import os
 import re
-import shutil
-import subprocess
 import sys
 import tempfile
 from pathlib import Path
+from typing import Dict, List, NamedTuple, Tuple
 
-TOP = Path(__file__).resolve().parents[2]
-BUILD, PROGRAMS, INSTALL = (
-    TOP / "packaging" / name for name in ("build-library", "build-programs", "install")
+sys.dont_write_bytecode = True
+sys.path[:0] = [str(Path(__file__).resolve().parents[up]) for up in (0, 1)]
+from building import (  # noqa: E402
+    BUILD_LIBRARY,
+    BUILD_PROGRAMS,
+    FLAGS,
+    HAS_OBJECTS,
+    INSTALL,
+    TOOLS,
+    Words,
+    build_libraries,
+    expect_properties,
+    expect_success,
+    fail,
+    hardening,
+    link_programs,
+    read_elf,
+    run,
 )
-LIBRARIES = ("lib/libkumquatsieve.so.0", "lib/kumquatsieve/mecab/libmecab.so.2")
-# What programs are linked from: `rt ci` leaves no objects where it keeps what an earlier run passed.
-HAS_OBJECTS = all(
-    (TOP / "crates" / name / "out" / f"{name}.o").is_file() for name in ("dictc", "jseg")
-)
-WANTED = ("gcc", "g++", "ar", "ld", "objcopy", "strip", "readelf")
-TOOLS = {"CC": "gcc", "CXX": "g++", "AR": "ar", "LD": "ld", "OBJCOPY": "objcopy", "STRIP": "strip"}
-FLAGS = {
-    "CPPFLAGS": "-DOWN_CPPFLAGS",
-    "CFLAGS": "-O1 -DOWN_CFLAGS",
-    "CXXFLAGS": "-O1 -DOWN_CXXFLAGS",
-    "LDFLAGS": "-Wl,--build-id=0x6b756d71",
-}
-# A compiler whose objects are those of another machine where it is asked whether they can be linked.
+from support.running import LEFT_OUT, TOP, end_left_out, leave_out, missing_of  # noqa: E402
+
+NEEDS = ("gcc", "g++", "ar", "ld", "objcopy", "strip", "readelf")
+MECAB_HEADER = Path("/usr/include/mecab.h")
+# A compiler whose objects are for another machine when a script tests whether they can be linked.
 OTHER_MACHINE = """#!/bin/sh
 case "$*" in
 -dumpmachine) echo other-linux-gnu ;;
@@ -40,297 +52,217 @@ case "$*" in
 *) exec gcc "$@" ;;
 esac
 """
+# A tool that logs its arguments.
 LOGGED = """#!/bin/sh
 echo "{name} $*" >> {log}
 exec {tool} "$@"
 """
+# Files that packaging/install installs with --mecab and --libdir lib/own.
+INSTALLED = (
+    "bin/jseg",
+    "bin/kumquatsieve-cut",
+    "include/kumquatsieve.h",
+    "lib/own/libkumquatsieve.a",
+    "lib/own/kumquatsieve/mecab/libmecab.so.2",
+)
 
 
-def fail(why):
-    sys.exit(f"builds: {why}")
+class Rejected(NamedTuple):
+    """A command that must fail: its arguments and variables, its status, and a part of its output.
+
+    `prefix` is whether the folder to install to follows the arguments.
+    """
+
+    name: str
+    command: Path
+    arguments: List[str]
+    prefix: bool
+    variables: Dict[str, str]
+    status: int
+    message: str
 
 
-def run(words, folder, **variables):
-    """The status and what is said; no flag of this script's own environment counts."""
-    environment = {
-        name: value for name, value in os.environ.items() if name not in (*TOOLS, *FLAGS, "DESTDIR")
-    } | variables
-    done = subprocess.run(
-        list(map(str, words)),
-        cwd=folder,
-        env=environment,
-        stdout=subprocess.PIPE,
-        stderr=subprocess.STDOUT,
-        text=True,
-    )
-    return done.returncode, done.stdout
+def script(path: Path, text: str) -> str:
+    """Writes an executable script and returns its path."""
+    path.write_text(text)
+    path.chmod(0o755)
+    return str(path)
 
 
-def built(folder, *words, **variables):
-    status, said = run([BUILD, "--built", *words, folder / "prefix"], folder, **variables)
-    if status != 0:
-        fail(f"build-library {' '.join(words)}: status {status}\n{said}")
-    return [folder / "prefix" / name for name in LIBRARIES]
-
-
-def linked(folder, **variables):
-    status, said = run([PROGRAMS, folder / "prefix"], folder, **variables)
-    if status != 0:
-        fail(f"build-programs: status {status}\n{said}")
-    return [folder / "prefix" / "bin" / name for name in ("dictc", "jseg")]
-
-
-def told(file, *words):
-    return subprocess.run(
-        ["readelf", "-W", *words, file], stdout=subprocess.PIPE, text=True, check=True
-    ).stdout
-
-
-def hardened(file):
-    return {
-        "all relocations first": "BIND_NOW" in told(file, "-d") or "NOW" in told(file, "-d"),
-        "relocations that are read alone": "GNU_RELRO" in told(file, "-l"),
-        "no stack that is run": re.search(r"GNU_STACK .* RW +0x", told(file, "-l")) is not None,
-        "no text that is written": "TEXTREL" not in told(file, "-d"),
-    }
-
-
-def expect(file, wanted):
-    for what, is_so in wanted.items():
-        if not is_so:
-            fail(f"{file.name}: {what} wanted")
-
-
-def check_hardened(folder):
-    """Relocations are read alone once they are made, and all are made first; no stack is run; and the layer's copies and stacks are guarded."""
-    for library in built(folder, "--mecab"):
-        wanted = hardened(library) | {"no symbols": ".symtab" not in told(library, "-S")}
+def check_libraries(folder: Path) -> None:
+    """Checks that both libraries are stripped and hardened, and how the C of libmecab is."""
+    for library in build_libraries(folder):
+        properties = {**hardening(library), "no symbols": ".symtab" not in read_elf(library, "-S")}
         if library.name.startswith("libmecab"):
-            wanted["guarded stacks"] = "__stack_chk_fail" in told(library, "--dyn-syms")
-            wanted["guarded copies"] = "_chk@" in told(library, "--dyn-syms").replace(
-                "__stack_chk_fail", ""
-            )
-        expect(library, wanted)
+            symbols = read_elf(library, "--dyn-syms")
+            properties["guarded stacks"] = "__stack_chk_fail" in symbols
+            copies = symbols.replace("__stack_chk_fail", "")
+            properties["guarded copies"] = "_chk@" in copies
+        expect_properties(library, properties)
 
 
-def check_programs(folder):
-    """The programs too, which lie at any address, need the C library alone, and ask for huge pages."""
-    for program in linked(folder) if HAS_OBJECTS else []:
-        wanted = hardened(program) | {
-            "any address": re.search(r"Type: +DYN", told(program, "-h")) is not None,
-            "the C library alone": re.findall(r"NEEDED.*\[(.*)\]", told(program, "-d"))
-            == ["libc.so.6"],
-            "huge pages": " madvise@" in told(program, "--dyn-syms"),
+def check_programs(folder: Path) -> None:
+    """Checks that the programs are hardened, run at any address, and ask for huge pages."""
+    for program in link_programs(folder):
+        needed = re.findall(r"NEEDED.*\[(.*)\]", read_elf(program, "-d"))
+        properties = {
+            **hardening(program),
+            "any address": re.search(r"Type: +DYN", read_elf(program, "-h")) is not None,
+            "the C library alone": needed == ["libc.so.6"],
+            "huge pages": " madvise@" in read_elf(program, "--dyn-syms"),
         }
-        expect(program, wanted)
+        expect_properties(program, properties)
 
 
-def check_symbols_left_in(folder):
-    for library in built(folder, "--mecab", STRIP=":"):
-        if ".symtab" not in told(library, "-S"):
+def check_unstripped(folder: Path) -> None:
+    for library in build_libraries(folder, STRIP=":"):
+        if ".symtab" not in read_elf(library, "-S"):
             fail(f"{library.name}: STRIP=: takes the symbols out")
 
 
-def logging_tools(folder):
-    """Tools that note their words."""
-    log, made = folder / "log", {}
-    for variable, tool in TOOLS.items():
-        made[variable] = folder / f"own-{tool}"
-        made[variable].write_text(LOGGED.format(name=variable, log=log, tool=tool))
-        made[variable].chmod(0o755)
-    return log, {variable: str(path) for variable, path in made.items()}
-
-
-def check_environment(folder):
-    """Each file is compiled by the environment's compiler and flags, and the libraries and programs are linked by its flags."""
-    log, tools = logging_tools(folder)
-    files = [
-        *(linked(folder, **tools, **FLAGS) if HAS_OBJECTS else []),
-        *built(folder, "--mecab", **tools, **FLAGS),
-    ]
+def check_environment(folder: Path) -> None:
+    """Checks that the compilers, tools and flags are those of the environment."""
+    log = folder / "log"
+    tools = {
+        name: script(folder / f"own-{tool}", LOGGED.format(name=name, log=log, tool=tool))
+        for name, tool in TOOLS.items()
+    }
+    files = link_programs(folder, **tools, **FLAGS) + build_libraries(folder, **tools, **FLAGS)
     lines = log.read_text().splitlines()
-    for source in [
-        path for name in ("capi", "capi/src", "libmecab") for path in (TOP / name).glob("*.c*")
-    ]:
-        compiler, flags = (
-            ("CXX", "-DOWN_CXXFLAGS") if source.suffix == ".cc" else ("CC", "-DOWN_CFLAGS")
-        )
-        if not any(
-            line.startswith(f"{compiler} ")
-            and str(source) in line
-            and flags in line
-            and "-DOWN_CPPFLAGS" in line
-            for line in lines
-        ):
-            fail(f"{source.name} is not compiled by the environment's {compiler} and flags")
-    for variable in TOOLS:
-        if not any(line.startswith(f"{variable} ") for line in lines):
-            fail(f"the environment's {variable} is not taken")
+    for source in sources():
+        check_compiled(source, lines)
+    for name in TOOLS:
+        if not any(line.startswith(f"{name} ") for line in lines):
+            fail(f"{name} of the environment is not used")
     for file in files:
-        if "6b756d71" not in told(file, "-n"):
-            fail(f"{file.name} is not linked by the environment's LDFLAGS")
+        if "6b756d71" not in read_elf(file, "-n"):
+            fail(f"{file.name} is not linked with LDFLAGS of the environment")
 
 
-def check_relative(folder):
-    """Below DESTDIR all stands at the absolute path of the prefix, which is what the texts name."""
+def sources() -> List[Path]:
+    """Returns the sources in C and C++ of the libraries and of the heap."""
+    folders = (TOP / "capi", TOP / "libmecab")
+    return [path for kind in ("*.c", "*.cc") for folder in folders for path in folder.rglob(kind)]
+
+
+def check_compiled(source: Path, lines: List[str]) -> None:
+    """Checks that a file is compiled by the compiler and the flags of the environment."""
+    name, flags = ("CXX", "CXXFLAGS") if source.suffix == ".cc" else ("CC", "CFLAGS")
+    words = (str(source), f"-DOWN_{flags}", "-DOWN_CPPFLAGS")
+    compiled = [line for line in lines if line.startswith(f"{name} ")]
+    if not any(all(word in line for word in words) for line in compiled):
+        fail(f"{source.name} is not compiled by {name} and the flags of the environment")
+
+
+def check_relative(folder: Path) -> None:
+    """Checks that all files are below DESTDIR at the absolute path of a relative prefix."""
     top, at = folder / "top", folder / "at"
     at.mkdir()
-    status, said = run(
-        [INSTALL, "--built", "--mecab", "--libdir", "lib/own", "--python", "modules", "rel"],
-        at,
-        DESTDIR=str(top),
-    )
-    if status != 0:
-        fail(f"install with a relative prefix: status {status}\n{said}")
-    prefix = Path(f"{top}{at}") / "rel"
-    own = "lib/own/kumquatsieve/mecab"
-    for name in (
-        "bin/jseg",
-        "bin/kumquatsieve-cut",
-        "include/kumquatsieve.h",
-        "lib/own/libkumquatsieve.a",
-        f"{own}/libmecab.so.2",
-    ):
-        if not (prefix / name).is_file():
+    options = ["--built", "--mecab", "--libdir", "lib/own", "--python", "modules"]
+    done = run([INSTALL, *options, "rel"], at, DESTDIR=str(top))
+    expect_success("install with a relative prefix", done)
+    below = Path(f"{top}{at}")
+    for name in INSTALLED:
+        if not (below / "rel" / name).is_file():
             fail(f"a relative prefix: {name} is not below DESTDIR")
-    if (
-        not Path(f"{top}{at}/modules/kumquatsieve/__init__.py").is_file()
-        or sorted(os.listdir(at)) != []
-    ):
+    if not (below / "modules/kumquatsieve/__init__.py").is_file() or os.listdir(at):
         fail("a relative folder of modules is not below DESTDIR")
-    stray = [
-        path for path in top.rglob("*") if path.is_file() and Path(f"{top}{at}") not in path.parents
-    ]
+    files = [path for path in top.rglob("*") if path.is_file()]
+    stray = [path for path in files if below not in path.parents]
     if stray:
-        fail(f"a relative prefix: elsewhere stands {stray[0]}")
-    texts = [
-        (prefix / "lib/own/pkgconfig/kumquatsieve.pc").read_text(),
-        (prefix / own / "mecab-config").read_text(),
-    ]
-    if (
-        not texts[0].startswith(f"prefix={at}/rel\nlibdir=${{prefix}}/lib/own\n")
-        or f'"-L{at}/rel/{own} -lmecab' not in texts[1]
-    ):
-        fail("a relative prefix: the texts name another one")
+        fail(f"a relative prefix: {stray[0]} is installed elsewhere")
+    check_relative_texts(at, below / "rel")
 
 
-def check_umask(folder):
-    """Whoever installs may let nobody else read what they make. All users may read what is installed, enter its folders and run its programs."""
+def check_relative_texts(at: Path, prefix: Path) -> None:
+    """Checks the prefix in the settings for pkg-config and in mecab-config."""
+    own = "lib/own/kumquatsieve/mecab"
+    settings = (prefix / "lib/own/pkgconfig/kumquatsieve.pc").read_text()
+    config = (prefix / own / "mecab-config").read_text()
+    if not settings.startswith(f"prefix={at}/rel\nlibdir=${{prefix}}/lib/own\n"):
+        fail("a relative prefix: kumquatsieve.pc names another one")
+    if f'"-L{at}/rel/{own} -lmecab' not in config:
+        fail("a relative prefix: mecab-config names another one")
+
+
+def check_umask(folder: Path) -> None:
+    """Checks that all users may read, enter and run what is installed under a strict umask."""
     tops = folder / "modules", folder / "prefix"
-    status, said = run(
-        [
-            "sh",
-            "-c",
-            'umask 077 && exec "$@"',
-            "sh",
-            INSTALL,
-            "--built",
-            "--mecab",
-            "--python",
-            *tops,
-        ],
-        folder,
-    )
-    if status != 0:
-        fail(f"install under a umask of 077: status {status}\n{said}")
+    install: Words = [INSTALL, "--built", "--mecab", "--python", *tops]
+    done = run(["sh", "-c", 'umask 077 && exec "$@"', "sh", *install], folder)
+    expect_success("install under a umask of 077", done)
     for path in [*tops, *(path for top in tops for path in top.rglob("*"))]:
         is_run = path.is_dir() or path.parent.name == "bin" or path.name == "mecab-config"
-        wanted = 0o005 if is_run else 0o004
-        if path.stat().st_mode & wanted != wanted:
-            fail(
-                f"install under a umask of 077: {path.relative_to(folder)} has the mode {path.stat().st_mode & 0o777:o}"
-            )
+        needed, mode = 0o005 if is_run else 0o004, path.stat().st_mode & 0o777
+        if mode & needed != needed:
+            name = path.relative_to(folder)
+            fail(f"install under a umask of 077: {name} has the mode {mode:o}")
 
 
-def check_refused(folder):
-    """Each is told, and nothing is installed."""
-    other = folder / "other-gcc"
-    other.write_text(OTHER_MACHINE)
-    other.chmod(0o755)
-    rows = [
-        (
-            "a compiler for another machine",
-            [],
-            {"CC": str(other)},
-            1,
-            "made the library for another machine than other-linux-gnu",
-        ),
-        (
-            "a compiler that is not there",
-            [],
-            {"CC": "no-such-gcc -m64"},
-            1,
-            "there is no no-such-gcc",
-        ),
-        (
-            "a tool that is not there",
-            [],
-            {"OBJCOPY": "no-such-objcopy"},
-            1,
-            "there is no no-such-objcopy",
-        ),
-        ("an unknown option", ["--own"], {}, 2, "usage: packaging/build-library"),
-        ("no folder behind --libdir", ["--libdir"], {}, 2, "usage: packaging/build-library"),
+def rejected_cases(folder: Path) -> List[Rejected]:
+    other = script(folder / "other-gcc", OTHER_MACHINE)
+    library, built = BUILD_LIBRARY, ["--built"]
+    usage, programs_usage = (f"usage: packaging/{path.name}" for path in (library, BUILD_PROGRAMS))
+    machine = "made the library for another machine than other-linux-gnu"
+    missing = {"CC": "no-such-gcc -m64"}
+    tool = {"OBJCOPY": "no-such-objcopy"}
+    # fmt: off
+    return [
+        Rejected("a compiler for another machine", library, built, True, {"CC": other}, 1, machine),
+        Rejected("a missing compiler", library, built, True, missing, 1, "there is no no-such-gcc"),
+        Rejected("a missing tool", library, built, True, tool, 1, "there is no no-such-objcopy"),
+        Rejected("an unknown option", library, ["--built", "--own"], False, {}, 2, usage),
+        Rejected("--libdir alone", library, ["--built", "--libdir"], False, {}, 2, usage),
+        Rejected("programs, a missing compiler", BUILD_PROGRAMS, [], True, {"CC": "no-such-gcc"}, 1,
+                 "there is no no-such-gcc"),
+        Rejected("programs, an unknown option", BUILD_PROGRAMS, ["--own"], False, {}, 2,
+                 programs_usage),
     ]
-    for what, words, variables, status, text in rows:
-        end = [] if words else [folder / "prefix"]
-        expect_refused(folder, what, [BUILD, "--built", *words, *end], variables, status, text)
-    rows = [
-        (
-            "programs, a compiler that is not there",
-            folder / "prefix",
-            {"CC": "no-such-gcc"},
-            1,
-            "there is no no-such-gcc",
-        ),
-        ("programs, an unknown option", "--own", {}, 2, "usage: packaging/build-programs"),
-    ]
-    for what, word, variables, status, text in rows:
-        expect_refused(folder, what, [PROGRAMS, word], variables, status, text)
+    # fmt: on
 
 
-def expect_refused(folder, what, words, variables, status, text):
-    got, said = run(words, folder, **variables)
-    if got != status or text not in said or (folder / "prefix").exists():
-        fail(f"{what}: status {got}\n{said}")
+def check_rejected(folder: Path) -> None:
+    """Checks that each case is reported, and that nothing is installed."""
+    prefix = folder / "prefix"
+    for case in rejected_cases(folder):
+        words: Words = [case.command, *case.arguments, *([prefix] if case.prefix else [])]
+        done = run(words, folder, **case.variables)
+        if done.status != case.status or case.message not in done.printed or prefix.exists():
+            fail(f"{case.name}: status {done.status}\n{done.printed}")
 
 
-CHECKS = {
-    "both libraries are stripped and hardened": check_hardened,
-    "the programs are hardened, and ask for huge pages": check_programs,
-    "STRIP=: leaves the symbols in": check_symbols_left_in,
-    "compilers, flags and tools are the environment's": check_environment,
-    "a relative prefix and DESTDIR": check_relative,
-    "under a umask of 077 all users may read and run what is installed": check_umask,
-    "what can't be done is refused": check_refused,
-}
+CASES = (
+    ("both libraries are stripped and hardened", check_libraries),
+    ("the programs are hardened, and ask for huge pages", check_programs),
+    ("STRIP=: leaves the symbols in", check_unstripped),
+    ("compilers, flags and tools are the environment's", check_environment),
+    ("a relative prefix and DESTDIR", check_relative),
+    ("under a umask of 077 all users may read and run what is installed", check_umask),
+    ("invalid options and missing tools are rejected", check_rejected),
+)
 
 
-def main():
+def missing() -> Tuple[str, ...]:
+    header = () if MECAB_HEADER.exists() else (str(MECAB_HEADER),)
+    return (*missing_of(NEEDS), *header)
+
+
+def main() -> int:
     if sys.argv[1:] != ["--built"]:
         print("usage: tests/packaging/builds.py --built", file=sys.stderr)
-        sys.exit(2)
-    missing = [name for name in WANTED if shutil.which(name) is None] + [
-        name for name in ("/usr/include/mecab.h",) if not Path(name).exists()
-    ]
-    if missing:
-        print(f"builds: {missing[0]} is not there: nothing was checked", file=sys.stderr)
-        sys.exit(77)
+        return 2
+    if missing():
+        end_left_out(f"{missing()[0]} is missing")
     with tempfile.TemporaryDirectory() as made:
-        for number, (what, check) in enumerate(CHECKS.items()):
+        for number, (name, check) in enumerate(CASES):
             folder = Path(made, str(number))
             folder.mkdir()
             check(folder)
-            print(f"builds: {what}", flush=True)
-    if not HAS_OBJECTS:
-        leave_out("how the programs are linked, for want of their objects")
+            print(f"builds: {name}", flush=True)
+    if HAS_OBJECTS:
+        return 0
+    leave_out("how the programs are linked: their objects are missing")
+    return LEFT_OUT
 
 
-def leave_out(what):
-    print(f"builds: {what}: not checked", flush=True)
-    if "LEFT_OUT" in os.environ:
-        Path(os.environ["LEFT_OUT"]).write_text(f"{what}\n")
-    sys.exit(77)
-
-
-main()
+sys.exit(main())

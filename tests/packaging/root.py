@@ -1,6 +1,7 @@
-"""A root folder of its own, made of Debian packages that are installed here and of what these depend on.
+"""A root folder made of Debian packages that are installed here, and of what they depend on.
 
-dpkg takes it for a system with these packages: it looks at dependencies there, runs what packages want to be run, and triggers ldconfig.
+dpkg treats it as a system with these packages: it checks dependencies there, runs the scripts of
+packages, and triggers ldconfig.
 """
 import os
 import re
@@ -8,176 +9,206 @@ import shutil
 import subprocess
 import sys
 from pathlib import Path
+from typing import Dict, Iterable, List, NamedTuple, Optional, Set, Union
 
 INFO = Path("/var/lib/dpkg/info")
+# Links of the root folder to folders of /usr, on a system whose /usr is merged.
 MERGED = ("bin", "sbin", "lib", "lib64")
-UNWANTED = ("/usr/share/doc", "/usr/share/man", "/usr/share/locale", "/usr/share/info")
-# What dpkg, ldconfig and update-alternatives write of their own accord.
+UNNEEDED = ("/usr/share/doc", "/usr/share/man", "/usr/share/locale", "/usr/share/info")
+FOLDERS = (
+    "tmp",
+    "dev",
+    "etc/alternatives",
+    "var/log",
+    "var/lib/dpkg/info",
+    "var/lib/dpkg/updates",
+    "var/lib/dpkg/triggers",
+)
+FILES = (
+    "dev/null",
+    "var/lib/dpkg/status",
+    "var/lib/dpkg/available",
+    "var/lib/dpkg/triggers/File",
+)
+# What dpkg, ldconfig and update-alternatives write by themselves.
 OWN = ("var/lib/dpkg/", "var/log/", "var/cache/", "etc/ld.so.cache", "tmp/", "dev/")
-PLACE = {"PATH": "/usr/sbin:/usr/bin:/sbin:/bin", "LC_ALL": "C.UTF-8"}
+ENVIRONMENT = {"PATH": "/usr/sbin:/usr/bin:/sbin:/bin", "LC_ALL": "C.UTF-8"}
+QUERY = (
+    "${Package}\t${binary:Package}\t${db:Status-Abbrev}\t${Provides}\t${Pre-Depends}, ${Depends}\n"
+)
+
+# Each path of a root folder, with the size of a file, or the target of a link.
+State = Dict[str, Union[int, str]]
 
 
-def installed():
-    """What is installed here: the name by which dpkg keeps each package's files, and the names that it depends on."""
-    form = "${Package}\t${binary:Package}\t${db:Status-Abbrev}\t${Provides}\t${Pre-Depends}, ${Depends}\n"
-    told = subprocess.run(
-        ["dpkg-query", "-W", "-f", form], capture_output=True, text=True, check=True
-    ).stdout
-    kept, needs = {}, {}
-    for line in told.splitlines():
-        name, full, status, provided, wanted = line.split("\t")
-        if not status.startswith("ii") or name in needs:
+class Installed(NamedTuple):
+    """The packages that are installed here.
+
+    `full_names` has the name by which dpkg keeps the files of a package, by the names of packages
+    and by those that they provide. `needs` has the alternatives of each dependency.
+    """
+
+    full_names: Dict[str, str]
+    needs: Dict[str, List[List[str]]]
+
+
+def query(form: str) -> List[str]:
+    """Returns the lines that dpkg-query prints in a format."""
+    words = ["dpkg-query", "-W", "-f", form]
+    return subprocess.run(words, capture_output=True, text=True, check=True).stdout.splitlines()
+
+
+def names_in(field: str, separator: str) -> List[str]:
+    """Returns the names of packages in a field, without their versions and architectures."""
+    return [re.split(r"[ (:]", one.strip())[0] for one in field.split(separator) if one.strip()]
+
+
+def installed() -> Installed:
+    found = Installed({}, {})
+    for line in query(QUERY):
+        name, full_name, status, provided, depends = line.split("\t")
+        if not status.startswith("ii") or name in found.needs:
             continue
-        needs[name] = [
-            [re.split(r"[ (:]", choice.strip())[0] for choice in one.split("|")]
-            for one in wanted.split(",")
-            if one.strip()
-        ]
-        kept[name] = full
-        for other in filter(
-            None, (re.split(r"[ (]", one.strip())[0] for one in provided.split(","))
-        ):
-            kept.setdefault(other, full)
-    return kept, needs
+        needs = [names_in(one, "|") for one in depends.split(",") if one.strip()]
+        found.needs[name] = needs
+        found.full_names[name] = full_name
+        for other in names_in(provided, ","):
+            found.full_names.setdefault(other, full_name)
+    return found
 
 
-def essential():
-    """The packages that every Debian has."""
-    told = subprocess.run(
-        ["dpkg-query", "-W", "-f", "${Package}\t${Essential}\n"],
-        capture_output=True,
-        text=True,
-        check=True,
-    ).stdout
-    return [line.partition("\t")[0] for line in told.splitlines() if line.endswith("\tyes")]
+def essential() -> List[str]:
+    """Returns the packages that every Debian has."""
+    lines = query("${Package}\t${Essential}\n")
+    return [line.partition("\t")[0] for line in lines if line.endswith("\tyes")]
 
 
-def with_needs(names, kept, needs):
-    """These packages and all that they depend on; None where one is not installed."""
-    found, rest = set(), list(names)
-    while rest:
-        name = rest.pop()
-        if name not in kept:
+def with_needs(names: Iterable[str], there: Installed) -> Optional[Set[str]]:
+    """Returns packages with all that they depend on, or None if one is not installed."""
+    found: Set[str] = set()
+    remaining = list(names)
+    while remaining:
+        name = remaining.pop()
+        if name not in there.full_names:
             return None
-        real = kept[name].partition(":")[0]
-        if real not in found:
-            found.add(real)
-            rest += [
-                next((choice for choice in choices if choice in kept), choices[0])
-                for choices in needs[real]
-            ]
+        real = there.full_names[name].partition(":")[0]
+        if real in found:
+            continue
+        found.add(real)
+        for choices in there.needs[real]:
+            known = [choice for choice in choices if choice in there.full_names]
+            remaining.append(known[0] if known else choices[0])
     return found
 
 
 class Root:
-    """The root folder."""
+    """A root folder, in which commands run by chroot."""
 
-    def __init__(self, folder):
+    def __init__(self, folder: Path) -> None:
         self.folder = folder
-        self.kept, self.needs = installed()
-        self.names = set()
+        self.there = installed()
+        self.names: Set[str] = set()
         for name in MERGED:
             if Path("/", name).is_symlink():
                 (folder / "usr" / name).mkdir(parents=True)
                 (folder / name).symlink_to(os.readlink(f"/{name}"))
-        for name in (
-            "tmp",
-            "dev",
-            "etc/alternatives",
-            "var/log",
-            "var/lib/dpkg/info",
-            "var/lib/dpkg/updates",
-            "var/lib/dpkg/triggers",
-        ):
+        for name in FOLDERS:
             (folder / name).mkdir(parents=True)
-        for name in (
-            "dev/null",
-            "var/lib/dpkg/status",
-            "var/lib/dpkg/available",
-            "var/lib/dpkg/triggers/File",
-        ):
+        for name in FILES:
             (folder / name).touch()
         (folder / "var/lib/dpkg/triggers/ldconfig").write_text("libc-bin\n")
         shutil.copy(INFO / "format", folder / "var/lib/dpkg/info")
 
-    def add(self, *names):
-        """Copies installed packages, with all that they depend on; False where one is not installed here."""
-        found = with_needs(names, self.kept, self.needs)
+    def add(self, *names: str) -> bool:
+        """Copies installed packages with all that they depend on.
+
+        Returns False if one is not installed here.
+        """
+        found = with_needs(names, self.there)
         if found is None:
             return False
         for name in sorted(found - self.names):
-            self.copy(self.kept[name])
+            self._copy(self.there.full_names[name])
         self.names |= found
         self.run("ldconfig")
         return True
 
-    def copy(self, full):
-        listed = (INFO / f"{full}.list").read_text().splitlines()
-        paths = [
-            path
-            for path in listed
-            if path != "/." and not path.startswith(UNWANTED) and os.path.lexists(path)
-        ]
-        packed = subprocess.Popen(
-            ["tar", "-C", "/", "--no-recursion", "-cf", "-", "-T", "-"],
-            stdin=subprocess.PIPE,
-            stdout=subprocess.PIPE,
-            text=False,
-        )
-        unpacked = subprocess.Popen(
-            ["tar", "-C", self.folder, "--keep-directory-symlink", "-xf", "-"], stdin=packed.stdout
-        )
+    def _copy(self, full_name: str) -> None:
+        """Copies the files of a package, and what dpkg knows of it."""
+        self._copy_files(full_name)
+        for path in INFO.glob(f"{full_name}.*"):
+            shutil.copy(path, self.folder / "var/lib/dpkg/info")
+        words = ["dpkg-query", "-s", full_name]
+        entry = subprocess.run(words, capture_output=True, text=True, check=True).stdout
+        with open(self.folder / "var/lib/dpkg/status", "a") as status:
+            status.write(entry.rstrip("\n") + "\n\n")
+
+    def _copy_files(self, full_name: str) -> None:
+        listed = (INFO / f"{full_name}.list").read_text().splitlines()
+        paths = [path for path in listed if path != "/." and not path.startswith(UNNEEDED)]
+        paths = [path for path in paths if os.path.lexists(path)]
+        packing = ["tar", "-C", "/", "--no-recursion", "-cf", "-", "-T", "-"]
+        unpacking = ["tar", "-C", str(self.folder), "--keep-directory-symlink", "-xf", "-"]
+        packed = subprocess.Popen(packing, stdin=subprocess.PIPE, stdout=subprocess.PIPE)
+        assert packed.stdin and packed.stdout
+        unpacked = subprocess.Popen(unpacking, stdin=packed.stdout)
         packed.stdout.close()
         packed.stdin.write("".join(f".{path}\n" for path in paths).encode())
         packed.stdin.close()
         if unpacked.wait() != 0 or packed.wait() != 0:
-            sys.exit(f"root: {full} can't be copied")
-        for path in INFO.glob(f"{full}.*"):
-            shutil.copy(path, self.folder / "var/lib/dpkg/info")
-        told = subprocess.run(
-            ["dpkg-query", "-s", full], capture_output=True, text=True, check=True
-        ).stdout
-        with open(self.folder / "var/lib/dpkg/status", "a") as status:
-            status.write(told.rstrip("\n") + "\n\n")
+            sys.exit(f"root: {full_name} can't be copied")
 
-    def dpkg(self, *words):
+    def dpkg(self, *words: Union[str, Path]) -> "subprocess.CompletedProcess[bytes]":
+        """Runs dpkg for this root folder. Its output and errors are in `stdout`."""
         return subprocess.run(
             ["dpkg", f"--root={self.folder}", *map(str, words)],
-            env=PLACE,
+            env=ENVIRONMENT,
             stdout=subprocess.PIPE,
             stderr=subprocess.STDOUT,
         )
 
-    def run(self, *words, text="", **variables):
-        """What a command prints there; where it fails this script ends."""
+    def run(self, *words: str, text: str = "", **variables: str) -> str:
+        """Runs a command in this root folder and returns what it prints.
+
+        `text` is its input. This script ends if the command fails.
+        """
         done = subprocess.run(
-            ["chroot", self.folder, *words],
+            ["chroot", str(self.folder), *words],
             input=text.encode(),
             stdout=subprocess.PIPE,
             stderr=subprocess.STDOUT,
-            env={**PLACE, **variables},
+            env={**ENVIRONMENT, **variables},
         )
+        printed = done.stdout.decode(errors="replace")
         if done.returncode != 0:
-            sys.exit(
-                f"root: {' '.join(words)}: status {done.returncode}\n{done.stdout.decode(errors='replace')}"
-            )
-        return done.stdout.decode()
+            sys.exit(f"root: {' '.join(words)}: status {done.returncode}\n{printed}")
+        return printed
 
-    def state(self):
-        """Each path, with its size, or with what it links to; without what Python compiles of its own modules where it runs."""
-        found = {}
+    def fails(self, *words: str) -> "subprocess.CompletedProcess[str]":
+        """Runs a command that may fail in this root folder."""
+        return subprocess.run(["chroot", str(self.folder), *words], capture_output=True, text=True)
+
+    def state(self) -> State:
+        """Returns all paths.
+
+        Those that dpkg and others write by themselves are left out, and so are the files that
+        Python compiles of its own modules when it runs.
+        """
+        found: State = {}
         for folder, folders, names in os.walk(self.folder):
             for name in folders + names:
                 path = Path(folder, name)
-                place = str(path.relative_to(self.folder))
-                if not (place + "/").startswith(OWN) and (
-                    "__pycache__" not in place or "kumquatsieve" in place
-                ):
-                    found[place] = (
-                        os.readlink(path)
-                        if path.is_symlink()
-                        else 0
-                        if path.is_dir()
-                        else path.stat().st_size
-                    )
+                relative = str(path.relative_to(self.folder))
+                if (relative + "/").startswith(OWN):
+                    continue
+                if "__pycache__" in relative and "kumquatsieve" not in relative:
+                    continue
+                found[relative] = state_of(path)
         return found
+
+
+def state_of(path: Path) -> Union[int, str]:
+    """Returns the target of a link, the size of a file, or 0 for a folder."""
+    if path.is_symlink():
+        return os.readlink(path)
+    return 0 if path.is_dir() else path.stat().st_size
