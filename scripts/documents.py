@@ -2,7 +2,7 @@
 import re
 from functools import lru_cache
 from pathlib import Path
-from typing import FrozenSet, Iterator, Sequence
+from typing import FrozenSet, Iterator, Sequence, Tuple
 
 from repository import DOCUMENT, TOP, files, kind
 
@@ -18,14 +18,25 @@ MOVED = "tools"
 PLACEHOLDER = re.compile(r"^[A-Z_]+(?=$|\.(?!md))")
 
 
+def prose(path: Path) -> Iterator[Tuple[int, str]]:
+    """Yields the lines of a document that can be wrapped, with their numbers.
+
+    Tables, code and lines with a link can't: code shows commands and output as they are.
+    """
+    in_code = False
+    for number, line in enumerate((TOP / path).read_text().splitlines(), 1):
+        is_fence = line.lstrip().startswith("```")
+        in_code ^= is_fence
+        has_link = "](" in line or "://" in line
+        if not (in_code or is_fence or has_link or line.startswith(("|", "    "))):
+            yield number, line
+
+
 def long_lines(paths: Sequence[Path]) -> Iterator[str]:
-    """Yields each line of more than 100 characters, but for tables and lines with a link."""
+    """Yields each line of more than 100 characters; of documents, of their prose."""
     for path in paths:
-        is_document = kind(path) == DOCUMENT
-        for number, line in enumerate((TOP / path).read_text().splitlines(), 1):
-            has_link = "](" in line or "://" in line
-            if is_document and (line.startswith("|") or has_link):
-                continue
+        lines = enumerate((TOP / path).read_text().splitlines(), 1)
+        for number, line in prose(path) if kind(path) == DOCUMENT else lines:
             if len(line) > COLUMNS:
                 yield f"{path}:{number}: {len(line)} characters, and not at most {COLUMNS}"
 
