@@ -78,7 +78,8 @@ def exists(word: str) -> bool:
     """
     parts = [PLACEHOLDER.sub("*", part) for part in word.rstrip("/").split("/")]
     first, *others = [re.escape(part).replace(r"\*", "[^/]*") for part in parts]
-    ending = re.compile(rf"(?:.*/)?{first}(?:/src)?/{'/'.join(others)}(?:\.antt|\.rt|\.py)?")
+    below = f"(?:/src)?/{'/'.join(others)}" if others else ""
+    ending = re.compile(rf"(?:.*/)?{first}{below}(?:\.antt|\.rt|\.py)?")
     return any(map(ending.fullmatch, tracked()))
 
 
