@@ -90,6 +90,7 @@ MARKDOWN = (
 SCRIPTS = (
     *(f"scripts/{path.name}" for path in sorted((TOP / "scripts").iterdir()) if not path.suffix),
     "tests/run",
+    ".ci/run",
 )
 
 
