@@ -65,7 +65,7 @@ module _ (words : ℕ → List Word) (conn : ℕ → ℕ → ℤ) (len : ℕ) (a
   equal_or_through us vs ws (inr t) (inl e) = inr (subst (WinsTie words us) e t)
   equal_or_through us vs ws (inr t) (inr s) = inr (tie_through us vs ws t s)
 
-  no_worse_through : (us vs ws : List Word) (a b c : ℤ) → NoWorse words a us b vs → NoWorse words b vs c ws → NoWorse words a us c ws
+  pub no_worse_through : (us vs ws : List Word) (a b c : ℤ) → NoWorse words a us b vs → NoWorse words b vs c ws → NoWorse words a us c ws
   no_worse_through us vs ws a b c (inl x) (inl y) = inl (omega (arith, ints, x, y))
   no_worse_through us vs ws a b c (inl x) (inr y) = let e = y.0 in inl (omega (arith, ints, x, e))
   no_worse_through us vs ws a b c (inr x) (inl y) = let e = x.0 in inl (omega (arith, ints, e, y))

@@ -6,3 +6,4 @@ pub mod UnknownMembers
 pub mod PlaceWords
 pub mod TextPaths
 pub mod CoveredTexts
+pub mod Pruning

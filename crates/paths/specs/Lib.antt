@@ -14,3 +14,4 @@ pub mod Searchable
 pub mod Laws
 pub mod PathLaws
 pub mod LastRuns
+pub mod Pruned

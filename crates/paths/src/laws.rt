@@ -3,6 +3,7 @@
 ghost use Rattle.paths.specs.Best.{HasOneBest, KeepsOrder};
 ghost use Rattle.paths.specs.Laws.{OnlyBlanksRemain, WordsJoin, WordsKeepPlaces};
 ghost use Rattle.paths.specs.PathLaws.{TextsAreCovered};
+ghost use Rattle.paths.specs.Pruned.{PruningKeepsBest};
 
 /// There is exactly one best path.
 pub fn one_best_path()
@@ -14,6 +15,12 @@ pub fn one_best_path()
 /// So a search may keep, for each word, the best chain to it alone.
 pub fn extension_keeps_order()
     ensures { KeepsOrder }
+{}
+
+/// The best path of the words that are kept is the best of all paths, where a chain of kept words serves in place of each chain: it leads
+/// to the same place with the same right id, and costs less, or as much and wins the tie.
+pub fn pruning_keeps_best()
+    ensures { PruningKeepsBest }
 {}
 
 /// The words of a text are as a search asks: each begins at its place, is not empty, ends where a
