@@ -1,5 +1,5 @@
 -- Words of a place as surfaces: entries of one list whose numbers follow one another.
-use Rattle.std.specs.Prelude.{◌≡◌, ℕ, ◌<◌, List, length, flat_map}
+use Rattle.std.specs.Prelude.{◌≡◌, ℕ, ◌<◌, List, [], ◌∷◌, Some, length, flat_map, slice_get}
 use Rattle.std.specs.List.{AllByRecursion}
 use Rattle.mj_model.specs.declared.word.Origin.{Origin}
 use Rattle.mj_model.specs.declared.word.Origin.TheVariants.{Known, Unknown}
@@ -24,6 +24,11 @@ pub record IsWhole (words_of : Surface → List Word) (s : Surface) : Type 0 whe
   pub count_is : length (words_of s) ≡ s.count
   pub some : 0 < s.count
   pub stand : AllByRecursion (StandsWith s) (words_of s)
+
+-- a surface has one word: the word of another one with this number
+pub record IsWordOf (words_of : Surface → List Word) (s : Surface) (number : ℕ) (one : Surface) : Type 0 where
+  pub whole : IsWhole words_of one
+  pub word : (w : Word) → slice_get (words_of s) number ≡ Some w → words_of one ≡ w ∷ []
 
 -- the words of these surfaces, joined in order, are these words
 pub record AreSurfacesOf (words_of : Surface → List Word) (words : List Word) (surfaces : List Surface) : Type 0 where

@@ -1,11 +1,12 @@
 -- Surfaces that are appended one after another: their words are what was to be appended so far.
-use Rattle.std.proofs.Common.{◌≡◌, ℕ, ◌<◌, Bool, true, false, List, [], ◌∷◌, ◌++◌, length, take, map, flat_map, sym, ap, ◌∙◌, refl, arith, subst}
+use Rattle.std.proofs.Common.{◌≡◌, ℕ, zero, suc, ◌+◌, ◌<◌, Bool, true, false, List, [], ◌∷◌, ◌++◌, length, Some, slice_get, get_or, pos, take, drop, map, flat_map, sym, ap, ◌∙◌, refl, arith, subst}
 use Rattle.std.specs.Prelude.{◌==◌, chars}
 use Rattle.std.specs.List.{AllByRecursion, range_with_len}
 use Rattle.std.proofs.lemmas.Bool.{eq-eqb, ne_eqb}
-use Rattle.std.proofs.lemmas.List.{append-nil, append_assoc, length-append, length-map, take_at}
+use Rattle.std.proofs.lemmas.List.{append-nil, append_assoc, drop_more, length-append, length-map, take_at}
 use Rattle.std.proofs.lemmas.List.Concat.{flat_map-append}
 use Rattle.std.proofs.lemmas.List.FromFn.{length-range_with_len}
+use Rattle.std.proofs.lemmas.Option.{get_or_from_slice_get, same_Some}
 use Rattle.mj_model.specs.declared.word.Word.{Word}
 use Rattle.mj_model.specs.Tables.{Overlay, Token}
 use Rattle.mj_model.proofs.Basics.{all_append}
@@ -15,11 +16,11 @@ use Rattle.paths.specs.declared.surface.Surface.{Surface}
 use Rattle.word_lookup.specs.declared.word_start.WordStart.{WordStart}
 use Rattle.dict_image.specs.declared.token_row.TokenRow.{TokenRow}
 use Rattle.word_lookup.specs.EntryWords.{entry_word}
-use Rattle.paths.specs.Surfaces.{AreSurfacesOf, IsWhole, StandsWith}
+use Rattle.paths.specs.Surfaces.{AreSurfacesOf, IsWhole, IsWordOf, StandsWith}
 use Rattle.word_lookup.specs.Surfaces.{GrowsByWords, surface_words, tokens_of}
 use Rattle.word_lookup.specs.SurfacesHere.{surface_here}
 use Rattle.word_lookup.proofs.AppendLemmas.{front_kept}
-use Rattle.word_lookup.proofs.RowLemmas.{StandsAtNumber, row_is}
+use Rattle.word_lookup.proofs.RowLemmas.{StandsAtNumber, row_is, row_within}
 
 pub none_grown : (o : Overlay) (xs : List Surface) → GrowsByWords o [] xs xs
 none_grown o xs = ([], record { joined = refl; whole = tt }, sym (append-nil xs))
@@ -64,6 +65,29 @@ have_kept o n m before now after all left have is kept = grown_kept o n m before
 
 -- ---- one surface
 
+abbrev no_token : Token
+no_token = record { number = 0; left = 0; right = 0; cost = pos 0; feature = [] }
+
+token_of_word : (f : Token → Word) (ts : List Token) (i : ℕ) (w : Word) → slice_get (map f ts) i ≡ Some w → (t : Token) × (slice_get ts i ≡ Some t) × (f t ≡ w)
+token_of_word f [] i w at = absurd (cc)
+token_of_word f (t ∷ ts) zero w at = (t, refl, same_Some (f t) w at)
+token_of_word f (t ∷ ts) (suc i) w at = token_of_word f ts i w at
+
+taken_at : (ts : List Token) (n i : ℕ) (t : Token) → slice_get (take n ts) i ≡ Some t → slice_get ts i ≡ Some t
+taken_at ts zero i t at = absurd (cc)
+taken_at [] (suc n) i t at = absurd (cc)
+taken_at (u ∷ ts) (suc n) zero t at = at
+taken_at (u ∷ ts) (suc n) (suc i) t at = taken_at ts n i t at
+
+dropped_at : (ts : List Token) (n i k : ℕ) (t : Token) → k ≡ n + i → slice_get (drop n ts) i ≡ Some t → slice_get ts k ≡ Some t
+dropped_at ts zero i k t is at = ap (slice_get ts) (omega (arith, is)) ∙ at
+dropped_at [] (suc n) i k t is at = absurd (cc)
+dropped_at (u ∷ ts) (suc n) i zero t is at = absurd (omega (arith, is))
+dropped_at (u ∷ ts) (suc n) i (suc k) t is at = dropped_at ts n i k t (omega (arith, is)) at
+
+token_at : (ts : List Token) (first count i : ℕ) (t : Token) → slice_get (take count (drop first ts)) i ≡ Some t → slice_get ts (first + i) ≡ Some t
+token_at ts first count i t at = dropped_at ts first i (first + i) t refl (taken_at (drop first ts) count i t at)
+
 all_stand : (s : Surface) (es : List Token) → AllByRecursion (StandsWith s) (map (entry_word s.list s.place s.start s.end) es)
 all_stand s [] = tt
 all_stand s (e ∷ es) = (record { place = refl; start = refl; end = refl }, all_stand s es)
@@ -81,6 +105,28 @@ one_surface o s es before words numbers stand some are =
     let whole : IsWhole (surface_words o) s =
     record { count_is = omega (arith, long, a, b, c, d); some = omega (arith, long, a, b, some); stand = subst (AllByRecursion (StandsWith s)) (sym same) (all_stand s es) } in
     (s ∷ [], record { joined = append-nil (surface_words o s) ∙ same ∙ are; whole = (whole, tt) }, refl)
+
+-- the word of one entry of a surface is a surface of its own
+pub one_word : (o : Overlay) (s one : Surface) (i : ℕ) → one ≡ record s { first = s.first + i; count = 1 } → IsWhole (surface_words o) s → i < s.count → IsWordOf (surface_words o) s i one
+one_word o s one i is whole less =
+    let f = entry_word s.list s.place s.start s.end in
+    let ts = tokens_of o s.list in
+    let within = row_within ts f s.first s.count whole.count_is whole.some in
+    let low : s.first + i < length ts = omega (arith, within, less) in
+    let t = get_or ts (s.first + i) (no_token) in
+    let rest = drop_more ts (s.first + i) t low in
+    let single : take 1 (drop (s.first + i) ts) ≡ get_or ts (s.first + i) t ∷ [] = ap (take 1) rest in
+    subst (IsWordOf (surface_words o) s i) (sym is) (record {
+      whole = record {
+        count_is = ap (λ (us : List Token). length (map f us)) single;
+        some = omega arith;
+        stand = all_stand (record s { first = s.first + i; count = 1 }) (take 1 (drop (s.first + i) ts));
+      };
+      word = λ w at.
+          let m = token_of_word f (take s.count (drop s.first ts)) i w at in
+          let there : slice_get ts (s.first + i) ≡ Some m.0 = token_at ts s.first s.count i m.0 m.1 in
+          ap (map f) (single ∙ ap (λ (u : Token). u ∷ []) (get_or_from_slice_get ts (s.first + i) m.0 t there)) ∙ ap (λ (v : Word). v ∷ []) m.2;
+    })
 
 -- that of a row which was appended
 pub surface_appended : (o : Overlay) (at : WordStart) (list : EntryList) (row : TokenRow) (end : ℕ) (s : Surface) (es : List Token) (before after : List Surface) (words : List Word) → s ≡ surface_here at list row end → after ≡ before ++ s ∷ []

@@ -1,5 +1,5 @@
 -- The tables of dictionaries by their numbers.
-use Rattle.std.proofs.Common.{◌≡◌, ℕ, zero, suc, ◌+◌, ◌-◌, ◌<◌, ◌≤◌, List, [], ◌∷◌, ◌++◌, length, get_or, drop, map, Some, sym, ap, ◌∙◌, refl, arith, subst, add-one}
+use Rattle.std.proofs.Common.{◌≡◌, ℕ, zero, suc, ◌+◌, ◌-◌, ◌<◌, ◌≤◌, ◌^◌, List, [], ◌∷◌, ◌++◌, length, get_or, drop, map, Some, sym, ap, ◌∙◌, refl, arith, subst, add-one}
 use Rattle.std.specs.Prelude.{slice_get, slice_index_or, option_map}
 use Rattle.std.specs.List.{AllByRecursion}
 use Rattle.std.specs.Option.{option_map_or}
@@ -14,7 +14,7 @@ use Rattle.dict_image.specs.Fitting.{AreFitting}
 use Rattle.dict_image.specs.Numbered.{numbered_tokens}
 use Rattle.word_lookup.specs.declared.dictionaries.Dictionaries.{Dictionaries}
 use Rattle.paths.specs.declared.entry_list.EntryList.{EntryList}
-use Rattle.paths.specs.declared.entry_list.EntryList.TheVariants.{Lexicon}
+use Rattle.paths.specs.declared.entry_list.EntryList.TheVariants.{Categories, Lexicon}
 use Rattle.word_lookup.specs.Fitting.{IsUserOf}
 use Rattle.word_lookup.specs.Overlays.{overlay_of}
 use Rattle.word_lookup.specs.Surfaces.{all_tables, tokens_of}
@@ -67,6 +67,17 @@ pub fits_at : (ts : List Tables) (n : ℕ) (t : Tables) → AllByRecursion AreFi
 fits_at [] n t all h = absurd (cc)
 fits_at (u ∷ us) zero t all h = subst AreFitting (same_Some u t h) all.0
 fits_at (u ∷ us) (suc n) t all h = fits_at us n t all.1 h
+
+few_by : (ts : List Tables) (n : ℕ) → AllByRecursion AreFitting ts → length (option_map_or numbered_tokens (slice_get ts n) []) ≤ 2 ^ 32
+few_by [] n all = omega arith
+few_by (t ∷ ts) zero all = all.0.few
+few_by (t ∷ ts) (suc n) all = few_by ts n all.1
+
+-- the entries of a list have numbers of 32 bits
+pub few_tokens : (d : Dictionaries) (list : EntryList) → length (tokens_of (overlay_of d) list) ≤ 2 ^ 32
+unfolding overlay_of
+few_tokens d (Lexicon n) = few_by (all_tables (overlay_of d)) n (all_fit d)
+few_tokens d Categories = (all_fit d).0.few
 
 -- the first category of a character is one of the system's
 pub first_category : (d : Dictionaries) (f : FirstCharacter) → f.info ≡ (image_tables d.system.now).info f.character → f.info.head < length (image_tables d.system.now).categories

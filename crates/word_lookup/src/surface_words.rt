@@ -4,7 +4,7 @@ ghost use Rattle.std.specs.Prelude.{◌≡◌, ◌+◌, ◌<◌, ◌≤◌, Some
 ghost use Rattle.image_bytes.specs.ImageMeaning.{image_tables};
 ghost use Rattle.dict_image.specs.Fitting.{AreFitting};
 ghost use Rattle.dict_image.specs.Numbered.{numbered_tokens};
-ghost use Rattle.paths.specs.Surfaces.{IsWhole};
+ghost use Rattle.paths.specs.Surfaces.{IsWhole, IsWordOf};
 ghost use Rattle.word_lookup.specs.Overlays.{overlay_of};
 ghost use Rattle.word_lookup.specs.Surfaces.{surface_words, tokens_of, words_among, word_with as word_of_surface};
 
@@ -69,6 +69,19 @@ impl<'a> Dictionaries<'a> {
         ensures { slice_get (surface_words (overlay_of self.now) surface.now) i ≡ Some result }
     {
         self.words_of(surface).word(i)
+    }
+
+    /// Returns word `i` of a surface of these dictionaries as a surface of its own.
+    pub fn alone(&self, surface: &Surface, i: u32) -> Surface
+        requires surface { IsWhole (surface_words (overlay_of self.now)) surface.now }
+        requires within { i < surface.now.count }
+        ensures { IsWordOf (surface_words (overlay_of self.now)) surface.now i result }
+    {
+        Surface {
+            first: surface.first + i,
+            count: 1,
+            ..*surface
+        }
     }
 
     /// The words of a surface of these dictionaries.
