@@ -54,6 +54,10 @@ impl<'a> WordSource for DictionaryText<'a> {
         words.word(i)
     }
 
+    fn alone(&self, surface: &Surface, i: u32) -> Surface {
+        self.dictionaries.alone(surface, i)
+    }
+
     fn are_alike(&self, one: &Surface, other: &Surface) -> bool {
         have_same_entries(one, other)
     }

@@ -15,3 +15,7 @@ pub mod Growth
 pub mod AlikeLemmas
 pub mod AddedWords
 pub mod Finish
+pub mod KeptWords
+pub mod Appended
+pub mod PrunedWords
+pub mod PrunedPlaces

@@ -9,3 +9,4 @@ pub mod Places
 pub mod Alike
 pub mod Connections
 pub mod BestNodes
+pub mod Pruning

@@ -1,11 +1,12 @@
 -- What the search is told of a text, as one record.
-use Rattle.std.specs.Prelude.{◌≡◌, ℕ, ℤ, ◌+◌, List, length, take, flat_map, slice_get, slice_index_or, true}
+use Rattle.std.specs.Prelude.{◌≡◌, ℕ, ℤ, ◌+◌, ◌≤◌, List, length, take, flat_map, slice_get, slice_index_or, true}
 use Rattle.std.specs.Option.{option_map_or}
 use Rattle.mj_model.specs.declared.word.Word.{Word}
 use Rattle.paths.specs.Best.{IsBestPath}
 use Rattle.paths.specs.Cost.{path_cost}
 use Rattle.paths.specs.Searchable.{IsSearchable}
 use Rattle.paths.specs.LastRuns.{AreLastRuns}
+use Rattle.paths.specs.Pruned.{ArePruned}
 use Rattle.paths.specs.declared.blank_run.BlankRun.{BlankRun}
 use Rattle.paths.specs.declared.character_run.CharacterRun.{CharacterRun}
 use Rattle.paths.specs.declared.last_runs.LastRuns.{LastRuns}
@@ -55,9 +56,21 @@ nodes_in t bundles backs = nodes_of (node_words t.surface_words bundles) backs
 abbrev pub IsLatticeOf : SearchedText → List Node → ℕ → ℕ → Type 0
 IsLatticeOf t nodes p k = IsLattice t.words t.connection nodes p k
 
--- the nodes are its words of the places before p that some chain reaches
-abbrev pub IsLatticeTo : SearchedText → List Node → ℕ → Type 0
-IsLatticeTo t nodes p = IsLatticeOf t nodes p (length (t.words p))
+-- a text with other words
+abbrev pub with_words : SearchedText → (ℕ → List Word) → SearchedText
+with_words t words = record t { words = words }
+
+-- these words are kept of a text: they can be searched in place of its words, and from p on they are all of them
+pub record IsPrunedTo (t : SearchedText) (p : ℕ) (kept : ℕ → List Word) : Type 0 where
+  pub searched : CanBeSearched (with_words t kept)
+  pub pruned : ArePruned t.words kept t.connection
+  pub later : (q : ℕ) → p ≤ q → kept q ≡ t.words q
+
+-- the nodes are the kept words of the places before p that some chain reaches
+pub record IsLatticeTo (t : SearchedText) (nodes : List Node) (p : ℕ) : Type 0 where
+  pub kept : ℕ → List Word
+  pub pruned : IsPrunedTo t p kept
+  pub lattice : IsLatticeOf (with_words t kept) nodes p (length (kept p))
 
 -- of each node of the bundles something is kept
 abbrev pub AreAllKept : SearchedText → List Bundle → List Backpointer → Type 0

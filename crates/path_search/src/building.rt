@@ -10,18 +10,20 @@ use crate::joins::Joins;
 use crate::node::End;
 use crate::nodes::Nodes;
 use crate::place::Place;
+use crate::pruning::Pruning;
 use crate::source::WordSource;
 use crate::thinning::Thinning;
 use paths::{LastRuns, Surface};
 use std::alloc::{AllocError, Global};
 
-/// What is kept from place to place and from text to text: room for the surfaces of a place and its ends, what thins them, and what was
+/// What is kept from place to place and from text to text: room for the surfaces of a place and its ends, what prunes both, and what was
 /// searched there.
 #[derive(Debug, Drop)]
 pub struct Room {
     pub surfaces: Vec<Surface>,
     pub ends: Vec<End>,
     pub thinning: Thinning,
+    pub pruning: Pruning,
     pub joins: Joins,
 }
 
@@ -32,6 +34,7 @@ impl Room {
             surfaces: Vec::new(alloc),
             ends: Vec::new(alloc),
             thinning: Thinning::new(alloc),
+            pruning: Pruning::new(alloc),
             joins: Joins::new(alloc),
         }
     }
@@ -112,6 +115,7 @@ fn add_place<S: WordSource>(
     source.surfaces_at(place, last, &mut room.surfaces)?;
     gather(source, nodes, place, &mut room.ends)?;
     room.thinning.thin(&mut room.ends)?;
+    room.pruning.prune(source, &room.ends, &mut room.surfaces)?;
     let reached = Place {
         start: place,
         surfaces: &room.surfaces,

@@ -10,6 +10,7 @@ mod joins;
 mod node;
 mod nodes;
 mod place;
+mod pruning;
 mod search;
 mod slots;
 mod source;

@@ -2,9 +2,8 @@
 
 ghost use Rattle.std.specs.Prelude.{◌≡◌, ◌+◌, ◌<◌, ◌++◌, ◌∷◌, [], slice_set, length, OnOk};
 ghost use Rattle.path_search.specs.Alike.{EndsWith, EndsWithAny, FollowsNext};
-ghost use Rattle.path_search.specs.Places.{AreAddedFrom, AreAddedIn, IsPlaceOf};
+ghost use Rattle.path_search.specs.Places.{AreAddedIn, AreKeptFrom};
 ghost use Rattle.path_search.specs.SearchedText.{AreKeptIn, IsLatticeTo, kept_nodes, word_count};
-ghost use Rattle.path_search.specs.Thinned.{AreBestEnds};
 
 use crate::joining::JoinFinder;
 use crate::node::{Backpointer, Bundle, End};
@@ -29,12 +28,9 @@ impl Place<'_> {
         nodes: &mut Nodes,
         joins: &mut J,
     ) -> Result<(), AllocError>
-        requires place { IsPlaceOf (S.says source.now) self.now }
         requires kept { AreKeptIn (S.says source.now) nodes.old }
-        requires lattice { IsLatticeTo (S.says source.now)
-            (kept_nodes (S.says source.now) nodes.old) self.now.start }
-        requires ends { AreBestEnds (kept_nodes (S.says source.now) nodes.old)
-            self.now.start self.now.ends.now }
+        requires none_added { AreAddedIn (S.says source.now) self.now
+            (length self.now.surfaces.now) nodes.old }
         requires joins { J.is_of joins.old (S.says source.now).connection self.now.ends.now }
         ensures kept { OnOk result (AreKeptIn (S.says source.now) nodes.new) }
         ensures lattice { OnOk result (IsLatticeTo (S.says source.now)
@@ -56,7 +52,6 @@ impl Place<'_> {
         number: usize,
         joins: &mut J,
     ) -> Result<(), AllocError>
-        requires place { IsPlaceOf (S.says source.now) self.now }
         requires number { number < length self.now.surfaces.now }
         requires behind { EndsWithAny (S.says source.now) self.now.surfaces.now (number + 1)
             nodes.old.bundles.items }
@@ -91,15 +86,14 @@ impl Place<'_> {
         number: usize,
         joins: &mut J,
     ) -> Result<(), AllocError>
-        requires place { IsPlaceOf (S.says source.now) self.now }
         requires number { number < length self.now.surfaces.now }
         requires last { EndsWith (S.says source.now) self.now.surfaces.now number bundles.now }
         requires follows { FollowsNext (S.says source.now) self.now.surfaces.now number
             bundles.now }
-        requires added { AreAddedFrom (S.says source.now) self.now number
+        requires added { AreKeptFrom (S.says source.now) self.now number
             (word_count self.now.surfaces.now number) bundles.now backs.old.items }
         requires joins { J.is_of joins.old (S.says source.now).connection self.now.ends.now }
-        ensures added { OnOk result (AreAddedFrom (S.says source.now) self.now number
+        ensures added { OnOk result (AreKeptFrom (S.says source.now) self.now number
             0 bundles.now backs.new.items) }
         ensures joins { OnOk result
             (J.is_of joins.new (S.says source.now).connection self.now.ends.now) }

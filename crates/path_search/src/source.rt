@@ -3,7 +3,7 @@
 ghost use Rattle.std.specs.Prelude.{◌≡◌, ℕ, ℤ, ◌<◌, List, length, slice_get, IsTrue, IsSome, OnOk, OnErr, Option, Some};
 ghost use Rattle.mj_model.specs.declared.word.Word.{Word};
 ghost use Rattle.mj_model.specs.Lists.{GrowsBy};
-ghost use Rattle.paths.specs.Surfaces.{IsWhole};
+ghost use Rattle.paths.specs.Surfaces.{IsWhole, IsWordOf};
 ghost use Rattle.path_search.specs.Alike.{AreAlike};
 ghost use Rattle.path_search.specs.Connections.{AreCostsBefore, IsLeftId};
 ghost use Rattle.path_search.specs.SearchedText.{AreRunsOf, AreSurfacesAt, SearchedText};
@@ -53,6 +53,12 @@ pub trait WordSource {
     fn word(&self, words: &Self::Words, i: u32) -> Word
         requires { i < length (words_in words.now) }
         ensures { slice_get (words_in words.now) i ≡ Some result };
+
+    /// Returns word `i` of a surface as a surface of its own.
+    fn alone(&self, surface: &Surface, i: u32) -> Surface
+        requires surface { IsWhole (says self.now).surface_words surface.now }
+        requires within { i < surface.now.count }
+        ensures { IsWordOf (says self.now).surface_words surface.now i result };
 
     /// Whether the words of two surfaces are known to be alike: word by word they have the same ids and the same cost. What was searched
     /// for those of one is then not searched again for those of the other.

@@ -62,6 +62,10 @@ impl WordSource for Sample {
         *words
     }
 
+    fn alone(&self, surface: &Surface, _i: u32) -> Surface {
+        *surface
+    }
+
     // The left id itself.
     type Costs = u16;
 

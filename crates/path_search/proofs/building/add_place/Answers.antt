@@ -1,11 +1,14 @@
 use Rattle.std.proofs.Common.{arith, ◌<◌, ◌++◌, List, length, slice_index_or, sym, subst, ap, ◌∙◌}
 use Rattle.std.proofs.lemmas.Option.{slice_get-get_or}
-use Rattle.path_search.specs.declared.node.End.{End}
 use Rattle.paths.specs.declared.surface.Surface.{Surface}
-use Rattle.path_search.specs.SearchedText.{AreSurfacesAt}
-use Rattle.path_search.specs.Thinned.{AreLeftOf}
+use Rattle.path_search.specs.declared.node.End.{End}
+use Rattle.path_search.specs.declared.place.Place.{Place}
+use Rattle.path_search.specs.Pruning.{ArePrunedSurfaces, CanBePrunedAll}
+use Rattle.path_search.specs.SearchedText.{AreSurfacesAt, kept_nodes}
+use Rattle.path_search.specs.Thinned.{AreBestEnds}
 use Rattle.path_search.proofs.Choice.{some_reached}
 use Rattle.path_search.proofs.Growth.{reached_place}
+use Rattle.path_search.proofs.PrunedPlaces.{can_be_pruned, none_added}
 use Rattle.path_search.proofs.ThinnedLemmas.{some_left}
 use Rattle.path_search.proofs.building.add_place.Goals as goal
 
@@ -15,15 +18,16 @@ surfaces_at-requires-clause-place g c =
     let nodes = c.args.nodes.now in
     let heads = nodes.heads.items in
     let kept = c.requires.kept in
+    let l = c.requires.lattice in
     let long = kept.places in
     let within : c.args.place < length heads = omega (arith, c.requires.place, long) in
     let head = slice_index_or heads c.args.place 0 in
     let at = slice_get-get_or heads c.args.place 0 within in
-    reached_place t.words t.connection t.text_length c.requires.source.source
-    t.is_place t.surface_words nodes.bundles.items nodes.backs.items heads c.args.place (length (t.words c.args.place)) c.args.place head c.requires.source.places kept.bundles_are kept.all c.requires.lattice kept.linked at c.requires.reached
+    reached_place l.kept t.connection t.text_length l.pruned.searched.source
+    t.is_place t.surface_words nodes.bundles.items nodes.backs.items heads c.args.place (length (l.kept c.args.place)) c.args.place head l.pruned.searched.places kept.bundles_are kept.all l.lattice kept.linked at c.requires.reached
 
-pub add_surfaces-requires-clause-place : goal.add_surfaces-requires-clause-place
-add_surfaces-requires-clause-place g c =
+pub prune-requires : goal.prune-requires
+prune-requires g c =
     let t = g.S.WordSource.says c.args.source.now in
     let nodes = c.args.nodes.now in
     let heads = nodes.heads.items in
@@ -32,19 +36,61 @@ add_surfaces-requires-clause-place g c =
     let within : c.args.place < length heads = omega (arith, c.requires.place, long) in
     let head = slice_index_or heads c.args.place 0 in
     let at = slice_get-get_or heads c.args.place 0 within in
-    let ends = c.gather.new.ends.items in
+    let all = c.gather.new.ends.items in
+    let ends = c.thin.new.ends.items in
     let grown = c.in_ok-surfaces_at.ensures.appended in
-    record {
-      source = c.requires.source;
-      within = c.requires.place;
-      surfaces = subst (AreSurfacesAt t c.args.place) (sym (c.deref.ensures.value ∙ grown.2 ∙ ap (λ (xs : List Surface). xs ++ grown.0) c.clear.ensures.items)) grown.1;
-      some = subst (λ (xs : List End). 0 < length xs) (sym c.deref-2.ensures.value)
-          (some_left ends c.thin.new.ends.items c.in_ok-thin.ensures.left
-          (some_reached t.surface_words nodes.bundles.items nodes.backs.items c.args.place (length nodes.bundles.items) head ends kept.bundles_are kept.all c.requires.reached
-          (kept.linked.heads_latest c.args.place head at) c.in_ok-gather.ensures));
-    }
+    let are = subst (AreSurfacesAt t c.args.place) (sym (grown.2 ∙ ap (λ (xs : List Surface). xs ++ grown.0) c.clear.ensures.items)) grown.1 in
+    let some = some_left all ends c.in_ok-thin.ensures.left
+    (some_reached t.surface_words nodes.bundles.items nodes.backs.items c.args.place (length nodes.bundles.items) head all kept.bundles_are kept.all c.requires.reached
+    (kept.linked.heads_latest c.args.place head at) c.in_ok-gather.ensures) in
+    let best : AreBestEnds (kept_nodes t nodes) c.args.place ends = record { all = all; are = c.in_ok-gather.ensures; left = c.in_ok-thin.ensures.left } in
+    subst (λ (xs : List End). CanBePrunedAll t xs c.surfaces_at.new.out.items) (sym c.deref.ensures.value)
+    (can_be_pruned t c.requires.source c.args.place c.requires.place (kept_nodes t nodes) c.requires.lattice ends best c.surfaces_at.new.out.items some are)
 
-pub add_surfaces-requires-clause-ends : goal.add_surfaces-requires-clause-ends
-add_surfaces-requires-clause-ends g c =
-    let ends = c.gather.new.ends.items in
-    record { all = ends; are = c.in_ok-gather.ensures; left = subst (AreLeftOf ends) (sym c.deref-2.ensures.value) c.in_ok-thin.ensures.left }
+pub add_surfaces-requires-clause-none_added : goal.add_surfaces-requires-clause-none_added
+add_surfaces-requires-clause-none_added g c =
+    let t = g.S.WordSource.says c.args.source.now in
+    let nodes = c.args.nodes.now in
+    let heads = nodes.heads.items in
+    let kept = c.requires.kept in
+    let long = kept.places in
+    let within : c.args.place < length heads = omega (arith, c.requires.place, long) in
+    let head = slice_index_or heads c.args.place 0 in
+    let at = slice_get-get_or heads c.args.place 0 within in
+    let all = c.gather.new.ends.items in
+    let ends = c.thin.new.ends.items in
+    let old = c.surfaces_at.new.out.items in
+    let new = c.prune.new.surfaces.items in
+    let grown = c.in_ok-surfaces_at.ensures.appended in
+    let are = subst (AreSurfacesAt t c.args.place) (sym (grown.2 ∙ ap (λ (xs : List Surface). xs ++ grown.0) c.clear.ensures.items)) grown.1 in
+    let some = some_left all ends c.in_ok-thin.ensures.left
+    (some_reached t.surface_words nodes.bundles.items nodes.backs.items c.args.place (length nodes.bundles.items) head all kept.bundles_are kept.all c.requires.reached
+    (kept.linked.heads_latest c.args.place head at) c.in_ok-gather.ensures) in
+    let best : AreBestEnds (kept_nodes t nodes) c.args.place ends = record { all = all; are = c.in_ok-gather.ensures; left = c.in_ok-thin.ensures.left } in
+    let pruned = subst (λ (xs : List End). ArePrunedSurfaces t xs old new) c.deref.ensures.value c.in_ok-prune.ensures in
+    let place : Place = record { start = c.args.place; surfaces = c.deref-2.result; ends = c.deref-3.result } in
+    none_added t c.requires.source place c.requires.place nodes.bundles.items nodes.backs.items c.requires.lattice ends c.deref-3.ensures.value best some old new c.deref-2.ensures.value are pruned kept.all kept.rights
+
+pub add_surfaces-requires-2-clause-none_added : goal.add_surfaces-requires-2-clause-none_added
+add_surfaces-requires-2-clause-none_added g c =
+    let t = g.S.WordSource.says c.args.source.now in
+    let nodes = c.args.nodes.now in
+    let heads = nodes.heads.items in
+    let kept = c.requires.kept in
+    let long = kept.places in
+    let within : c.args.place < length heads = omega (arith, c.requires.place, long) in
+    let head = slice_index_or heads c.args.place 0 in
+    let at = slice_get-get_or heads c.args.place 0 within in
+    let all = c.gather.new.ends.items in
+    let ends = c.thin.new.ends.items in
+    let old = c.surfaces_at.new.out.items in
+    let new = c.prune.new.surfaces.items in
+    let grown = c.in_ok-surfaces_at.ensures.appended in
+    let are = subst (AreSurfacesAt t c.args.place) (sym (grown.2 ∙ ap (λ (xs : List Surface). xs ++ grown.0) c.clear.ensures.items)) grown.1 in
+    let some = some_left all ends c.in_ok-thin.ensures.left
+    (some_reached t.surface_words nodes.bundles.items nodes.backs.items c.args.place (length nodes.bundles.items) head all kept.bundles_are kept.all c.requires.reached
+    (kept.linked.heads_latest c.args.place head at) c.in_ok-gather.ensures) in
+    let best : AreBestEnds (kept_nodes t nodes) c.args.place ends = record { all = all; are = c.in_ok-gather.ensures; left = c.in_ok-thin.ensures.left } in
+    let pruned = subst (λ (xs : List End). ArePrunedSurfaces t xs old new) c.deref.ensures.value c.in_ok-prune.ensures in
+    let place : Place = record { start = c.args.place; surfaces = c.deref-2.result; ends = c.deref-3.result } in
+    none_added t c.requires.source place c.requires.place nodes.bundles.items nodes.backs.items c.requires.lattice ends c.deref-3.ensures.value best some old new c.deref-2.ensures.value are pruned kept.all kept.rights

@@ -1,8 +1,9 @@
-use Rattle.std.proofs.Common.{arith, ◌≡◌, ◌<◌, ℕ, List, length, slice_index_or, false, subst, sym, ◌∙◌}
+use Rattle.std.proofs.Common.{arith, ◌≡◌, ◌<◌, ℕ, ◌+◌, List, length, slice_index_or, false, subst, sym, ◌∙◌}
 use Rattle.std.proofs.lemmas.Option.{slice_get-get_or}
 use Rattle.path_search.specs.Nodes.{reached}
 use Rattle.path_search.specs.SearchedText.{IsLatticeTo, kept_nodes}
 use Rattle.path_search.proofs.Growth.{not_reached}
+use Rattle.path_search.proofs.KeptWords.{kept_on}
 use Rattle.path_search.proofs.building.next_reached.Goals as goal
 
 pub loop-place-init : goal.loop-place-init
@@ -23,8 +24,13 @@ loop-place-preserved g c =
     let within : place < length heads = omega (arith, less, c.length-length.ensures, long) in
     let none : reached place (slice_index_or heads place 0) ≡ false =
     subst (λ (xs : List ℕ). reached place (slice_index_or xs place 0) ≡ false) c.as_slice-heads.ensures.value (sym c.is_reached.ensures ∙ c.if-is_reached.false) in
-    not_reached t.words t.connection t.text_length c.requires.source.source
-    t.surface_words nodes.bundles.items nodes.backs.items heads place (slice_index_or heads place 0) kept.bundles_are kept.all c.loop-place.invariant kept.linked (slice_get-get_or heads place 0 within) none
+    let l = c.loop-place.invariant in
+    record {
+      kept = l.kept;
+      pruned = kept_on t place (place + 1) l.kept (omega arith) l.pruned;
+      lattice = not_reached l.kept t.connection t.text_length l.pruned.searched.source
+          t.surface_words nodes.bundles.items nodes.backs.items heads place (slice_index_or heads place 0) kept.bundles_are kept.all l.lattice kept.linked (slice_get-get_or heads place 0 within) none;
+    }
 
 pub returns-clause-lattice : goal.returns-clause-lattice
 returns-clause-lattice g c =

@@ -17,7 +17,7 @@ numbers_back-requires-clause-links g c =
     let t = g.S.WordSource.says c.args.source.now in
     let ns = c.args.nodes.now in
     let words = node_words t.surface_words ns.bundles.items in
-    subst LinksKeptGoBack (sym c.deref.ensures.value) (links_kept words ns.backs.items c.requires.kept.all (λ i n at. (c.requires.lattice.best i n at).below))
+    subst LinksKeptGoBack (sym c.deref.ensures.value) (links_kept words ns.backs.items c.requires.kept.all (λ i n at. (c.requires.lattice.lattice.best i n at).below))
 
 pub numbers_back-requires-clause-from : goal.numbers_back-requires-clause-from
 numbers_back-requires-clause-from g c =
@@ -42,7 +42,7 @@ returns-clause-nodes g c =
     let all = c.requires.kept.all in
     let long = nodes_length words backs (omega (arith, all)) in
     let numbers : AreNumbersBack backs link js = subst (λ (o : Option ℕ). AreNumbersBack backs o js) c.linked.ensures (subst (λ (bs : List Backpointer). AreNumbersBack bs c.linked.result js) c.deref.ensures.value c.in_ok-numbers_back.ensures) in
-    let links = links_kept words backs all (λ i n at. (c.requires.lattice.best i n at).below) in
+    let links = links_kept words backs all (λ i n at. (c.requires.lattice.lattice.best i n at).below) in
     let below = subst (IsBelow link) long (below_all (kept_nodes t ns) link back.chain back.traced) in
     nodes_from_start t.surface_words ns.bundles.items backs link js c.requires.kept.bundles_are all links below numbers
 

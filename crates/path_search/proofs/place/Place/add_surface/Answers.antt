@@ -2,12 +2,12 @@ use Rattle.std.proofs.Common.{arith, ◌≡◌, ℕ, suc, ◌+◌, ◌<◌, ◌+
 use Rattle.std.proofs.lemmas.List.{length-set, length_push, take_at}
 use Rattle.std.proofs.lemmas.Option.{same_Some, slice_get-get_or, slice_get_read, slice_get_within}
 use Rattle.path_search.specs.declared.node.Bundle.{Bundle}
-use Rattle.path_search.specs.Places.{AreAddedFrom}
+use Rattle.path_search.specs.Places.{AreKeptFrom}
 use Rattle.mj_model.specs.declared.word.Word.{Word}
 use Rattle.paths.specs.declared.surface.Surface.{Surface}
 use Rattle.path_search.specs.Nodes.{AreLinked, AreBundles, bundle_words, node_words}
-use Rattle.path_search.specs.SearchedText.{word_count}
-use Rattle.path_search.proofs.AddedWords.{next_surface_added}
+use Rattle.path_search.specs.SearchedText.{with_words, word_count}
+use Rattle.path_search.proofs.KeptWords.{next_surface_kept}
 use Rattle.path_search.proofs.Links.{links_on}
 use Rattle.path_search.proofs.BundleNodes.{bundles_push, words_push}
 use Rattle.path_search.proofs.WordNumbers.{no_surface, surface_ends, whole_at}
@@ -20,7 +20,7 @@ index-requires g c =
     let surfaces = c.args.self.now.surfaces.now in
     let s = get_or surfaces c.args.number no_surface in
     let kept = c.requires.kept in
-    let end = surface_ends t c.args.self.now.start surfaces c.requires.place.surfaces c.requires.place.source.source c.args.number no_surface c.requires.number in
+    let end = surface_ends (with_words t c.requires.added.kept) c.args.self.now.start surfaces c.requires.added.place.surfaces c.requires.added.place.source.source c.args.number no_surface c.requires.number in
     let long = kept.places in
     let ok = nodes.heads.ok in
     omega (arith, end, long, ok.0)
@@ -32,7 +32,7 @@ add_bundle-requires g c =
     let surfaces = c.args.self.now.surfaces.now in
     let s = get_or surfaces c.args.number no_surface in
     let kept = c.requires.kept in
-    let end = surface_ends t c.args.self.now.start surfaces c.requires.place.surfaces c.requires.place.source.source c.args.number no_surface c.requires.number in
+    let end = surface_ends (with_words t c.requires.added.kept) c.args.self.now.start surfaces c.requires.added.place.surfaces c.requires.added.place.source.source c.args.number no_surface c.requires.number in
     let long = kept.places in
     let whole = ap length c.deref_mut.ensures.value in
     record { end = omega (arith, end, long, whole) }
@@ -76,8 +76,8 @@ add_words-requires-clause-added g c =
     let s = get_or c.args.self.now.surfaces.now c.args.number no_surface in
     let bundle : Bundle = record { surface = s; from = c.len.result; next = c.index.result.now } in
     let bundles_now : c.deref.result.now ≡ nodes.bundles.items ++ bundle ∷ [] = c.deref.ensures.value ∙ c.in_ok-add_bundle.ensures.bundles in
-    subst (λ (rs : List Bundle). AreAddedFrom t c.args.self.now c.args.number (word_count c.args.self.now.surfaces.now c.args.number) rs nodes.backs.items) (sym bundles_now)
-    (next_surface_added t c.args.self.now c.requires.place c.args.number c.requires.number nodes.bundles.items bundle refl nodes.backs.items c.requires.added)
+    subst (λ (rs : List Bundle). AreKeptFrom t c.args.self.now c.args.number (word_count c.args.self.now.surfaces.now c.args.number) rs nodes.backs.items) (sym bundles_now)
+    (next_surface_kept t c.args.self.now c.args.number c.requires.number nodes.bundles.items bundle refl nodes.backs.items c.requires.added)
 
 pub returns-clause-kept : goal.returns-clause-kept
 returns-clause-kept g c =
@@ -91,7 +91,7 @@ returns-clause-kept g c =
     let heads = nodes.heads.items in
     let ok = nodes.heads.ok in
     let long = kept.places in
-    let end = surface_ends t c.args.self.now.start surfaces c.requires.place.surfaces c.requires.place.source.source c.args.number no_surface c.requires.number in
+    let end = surface_ends (with_words t c.requires.added.kept) c.args.self.now.start surfaces c.requires.added.place.surfaces c.requires.added.place.source.source c.args.number no_surface c.requires.number in
     let within : s.end < length heads = omega (arith, end, long) in
     let at : slice_get heads s.end ≡ Some bundle.next = slice_get_read heads (length heads) s.end c.index.result.now refl within c.index.ensures in
     let more : length (nodes.bundles.items ++ bundle ∷ []) ≡ suc (length nodes.bundles.items) = let n = length_push nodes.bundles.items bundle in omega (arith, n) in
@@ -99,16 +99,16 @@ returns-clause-kept g c =
     let size = ap length set_heads ∙ length-set heads s.end (suc (length nodes.bundles.items)) in
     let heads_now = take_at c.add_bundle.new.heads (drop (length c.add_bundle.new.heads) heads) nodes.heads.len (size ∙ sym ok.0) ∙ set_heads in
     let from = c.len.ensures ∙ nodes.backs.ok.0 ∙ kept.all in
-    let whole = whole_at t c.args.self.now.start surfaces c.requires.place.surfaces c.args.number no_surface c.requires.number in
+    let whole = whole_at (with_words t c.requires.added.kept) c.args.self.now.start surfaces c.requires.added.place.surfaces c.args.number no_surface c.requires.number in
     let bundles_are = subst (AreBundles t.surface_words) (sym c.in_ok-add_bundle.ensures.bundles) (bundles_push t.surface_words nodes.bundles.items bundle kept.bundles_are whole from) in
     let linked = links_on nodes.bundles.items heads bundle kept.linked at in
-    let added = subst (λ (rs : List Bundle). AreAddedFrom t c.args.self.now c.args.number 0 rs c.add_words.new.backs.items) c.deref.ensures.value c.in_ok-add_words.ensures.added in
-    let none_left = added.left in
+    let added = subst (λ (rs : List Bundle). AreKeptFrom t c.args.self.now c.args.number 0 rs c.add_words.new.backs.items) c.deref.ensures.value c.in_ok-add_words.ensures.added in
+    let none_left = added.added.left in
     let places = ap length heads_now ∙ length-set heads s.end (suc (length nodes.bundles.items)) ∙ kept.places in
     record {
       bundles_are = bundles_are;
       all = omega (arith, none_left);
-      rights = added.rights;
+      rights = added.added.rights;
       linked = subst (λ (rs : List Bundle). AreLinked rs (take nodes.heads.len (c.add_bundle.new.heads ++ drop (length c.add_bundle.new.heads) heads))) (sym c.in_ok-add_bundle.ensures.bundles) (subst (λ (hs : List ℕ). AreLinked (nodes.bundles.items ++ bundle ∷ []) hs) (sym heads_now) linked);
       places = places;
     }
@@ -128,4 +128,4 @@ returns-clause-behind g c =
     }
 
 pub returns-clause-added : goal.returns-clause-added
-returns-clause-added g c = subst (λ (rs : List Bundle). AreAddedFrom (g.S.WordSource.says c.args.source.now) c.args.self.now c.args.number 0 rs c.add_words.new.backs.items) c.deref.ensures.value c.in_ok-add_words.ensures.added
+returns-clause-added g c = subst (λ (rs : List Bundle). AreKeptFrom (g.S.WordSource.says c.args.source.now) c.args.self.now c.args.number 0 rs c.add_words.new.backs.items) c.deref.ensures.value c.in_ok-add_words.ensures.added

@@ -1,7 +1,8 @@
 use Rattle.std.proofs.Common.{arith, ◌≡◌, ℕ, ◌+◌, ◌-◌, ◌++◌, List, get_or, length, take, drop, Some, subst, sym, ap, ◌∙◌, slice_get, vec_len}
 use Rattle.mj_model.specs.declared.word.Word.{Word}
-use Rattle.path_search.specs.Places.{AreAddedFrom}
-use Rattle.path_search.proofs.AddedWords.{all_copied, joins, many, one_more, pairs, small, totals}
+use Rattle.path_search.specs.Places.{AreKeptFrom}
+use Rattle.path_search.proofs.KeptWords.{copied_kept, kept_pairs, kept_small, kept_totals, many_kept, one_more_kept}
+use Rattle.path_search.specs.SearchedText.{with_words}
 use Rattle.path_search.proofs.WordNumbers.{count_at, no_surface, whole_at}
 use Rattle.path_search.proofs.place.Place.add_words.Goals as goal
 
@@ -10,8 +11,8 @@ overflow_sub-from g c =
     let t = g.S.WordSource.says c.args.source.now in
     let number = c.args.number in
     let count = count_at c.args.self.now.surfaces.now number no_surface c.requires.number in
-    let added = subst (λ (n : ℕ). AreAddedFrom t c.args.self.now number n c.args.bundles.now c.args.backs.now.items) count c.requires.added in
-    let enough = many t c.args.self.now c.requires.place number c.requires.number c.args.bundles.now c.requires.last c.requires.follows (c.is_alike_to_next.ensures c.if-is_alike_to_next.true) c.args.backs.now.items added in
+    let added = subst (λ (n : ℕ). AreKeptFrom t c.args.self.now number n c.args.bundles.now c.args.backs.now.items) count c.requires.added in
+    let enough = many_kept t c.args.self.now number c.requires.number c.args.bundles.now c.requires.last c.requires.follows (c.is_alike_to_next.ensures c.if-is_alike_to_next.true) c.args.backs.now.items added in
     let size = c.len.ensures ∙ c.args.backs.now.ok.0 in
     omega (arith, enough, size)
 
@@ -26,21 +27,21 @@ returns-then-is_alike_to_next-clause-added g c =
     let backs = c.args.backs.now.items in
     let its = (get_or c.args.self.now.surfaces.now number no_surface).count in
     let count = count_at c.args.self.now.surfaces.now number no_surface c.requires.number in
-    let added = subst (λ (n : ℕ). AreAddedFrom t c.args.self.now number n bundles backs) count c.requires.added in
+    let added = subst (λ (n : ℕ). AreKeptFrom t c.args.self.now number n bundles backs) count c.requires.added in
     let alike = c.is_alike_to_next.ensures c.if-is_alike_to_next.true in
-    let enough = many t c.args.self.now c.requires.place number c.requires.number bundles c.requires.last c.requires.follows alike backs added in
+    let enough = many_kept t c.args.self.now number c.requires.number bundles c.requires.last c.requires.follows alike backs added in
     let size = c.len.ensures ∙ c.args.backs.now.ok.0 in
     let whole : vec_len c.args.backs.now - (c.len.result - its) ≡ its = omega (arith, enough, size, c.len.ensures) in
     let copies = ap (λ (n : ℕ). backs ++ take n (drop (c.len.result - its) backs)) whole ∙ ap (λ (n : ℕ). backs ++ take its (drop (n - its) backs)) size in
-    subst (AreAddedFrom t c.args.self.now number 0 bundles) (sym (c.in_ok-extend_from_within.ensures.items ∙ copies))
-    (all_copied t c.args.self.now c.requires.place number c.requires.number bundles c.requires.last c.requires.follows alike backs added)
+    subst (AreKeptFrom t c.args.self.now number 0 bundles) (sym (c.in_ok-extend_from_within.ensures.items ∙ copies))
+    (copied_kept t c.args.self.now number c.requires.number bundles c.requires.last c.requires.follows alike backs added)
 
 pub loop-i-init : goal.loop-i-init
 loop-i-init g c =
     let count = count_at c.args.self.now.surfaces.now c.args.number no_surface c.requires.number in
     record {
       within = omega (arith, count);
-      added = subst (λ (n : ℕ). AreAddedFrom (g.S.WordSource.says c.args.source.now) c.args.self.now c.args.number n c.args.bundles.now c.args.backs.now.items) count c.requires.added;
+      added = subst (λ (n : ℕ). AreKeptFrom (g.S.WordSource.says c.args.source.now) c.args.self.now c.args.number n c.args.bundles.now c.args.backs.now.items) count c.requires.added;
       joins = c.requires.joins;
     }
 
@@ -49,11 +50,14 @@ word-word-requires g c =
     let t = g.S.WordSource.says c.args.source.now in
     let surfaces = c.args.self.now.surfaces.now in
     let count = count_at surfaces c.args.number no_surface c.requires.number in
-    let whole = (whole_at t c.args.self.now.start surfaces c.requires.place.surfaces c.args.number no_surface c.requires.number).count_is in
+    let whole = (whole_at (with_words t c.requires.added.kept) c.args.self.now.start surfaces c.requires.added.place.surfaces c.args.number no_surface c.requires.number).count_is in
     let all = ap length c.words_of-words.ensures in
     let low = c.loop-i.invariant.within in
     let some = c.loop-i-test.true in
     omega (arith, count, whole, all, low, some)
+
+pub join-requires-clause-some : goal.join-requires-clause-some
+join-requires-clause-some g c = c.requires.added.place.some
 
 pub join-requires-clause-totals : goal.join-requires-clause-totals
 join-requires-clause-totals g c =
@@ -63,8 +67,8 @@ join-requires-clause-totals g c =
     let some = c.loop-i-test.true in
     let same : c.loop-i.i ≡ i + 1 = omega (arith, some) in
     let its = subst (λ (ws : List Word). slice_get ws i ≡ Some c.word-word.result) c.words_of-words.ensures c.word-word.ensures in
-    let added = subst (λ (n : ℕ). AreAddedFrom t c.args.self.now c.args.number n c.args.bundles.now backs) same c.loop-i.invariant.added in
-    totals t c.args.self.now c.requires.place c.args.number c.requires.number c.args.bundles.now backs i c.word-word.result its added
+    let added = subst (λ (n : ℕ). AreKeptFrom t c.args.self.now c.args.number n c.args.bundles.now backs) same c.loop-i.invariant.added in
+    kept_totals t c.args.self.now c.args.number c.requires.number c.args.bundles.now backs i c.word-word.result its added
 
 pub join-requires-clause-pairs : goal.join-requires-clause-pairs
 join-requires-clause-pairs g c =
@@ -74,8 +78,8 @@ join-requires-clause-pairs g c =
     let some = c.loop-i-test.true in
     let same : c.loop-i.i ≡ i + 1 = omega (arith, some) in
     let its = subst (λ (ws : List Word). slice_get ws i ≡ Some c.word-word.result) c.words_of-words.ensures c.word-word.ensures in
-    let added = subst (λ (n : ℕ). AreAddedFrom t c.args.self.now c.args.number n c.args.bundles.now backs) same c.loop-i.invariant.added in
-    pairs t c.args.self.now c.requires.place c.args.number c.requires.number c.args.bundles.now backs i c.word-word.result its added
+    let added = subst (λ (n : ℕ). AreKeptFrom t c.args.self.now c.args.number n c.args.bundles.now backs) same c.loop-i.invariant.added in
+    kept_pairs t c.args.self.now c.args.number c.requires.number c.args.bundles.now backs i c.word-word.result its added
 
 pub after-requires : goal.after-requires
 after-requires g c =
@@ -85,8 +89,8 @@ after-requires g c =
     let some = c.loop-i-test.true in
     let same : c.loop-i.i ≡ i + 1 = omega (arith, some) in
     let its = subst (λ (ws : List Word). slice_get ws i ≡ Some c.word-word.result) c.words_of-words.ensures c.word-word.ensures in
-    let added = subst (λ (n : ℕ). AreAddedFrom t c.args.self.now c.args.number n c.args.bundles.now backs) same c.loop-i.invariant.added in
-    small t c.args.self.now c.requires.place c.args.number c.requires.number c.args.bundles.now backs i c.word-word.result its added c.in_ok-found.found c.in_ok-found.ensures.join
+    let added = subst (λ (n : ℕ). AreKeptFrom t c.args.self.now c.args.number n c.args.bundles.now backs) same c.loop-i.invariant.added in
+    kept_small t c.args.self.now c.args.number c.requires.number c.args.bundles.now backs i c.word-word.result its added c.in_ok-found.found c.in_ok-found.ensures.join
 
 pub loop-i-preserved : goal.loop-i-preserved
 loop-i-preserved g c =
@@ -96,12 +100,11 @@ loop-i-preserved g c =
     let some = c.loop-i-test.true in
     let same : c.loop-i.i ≡ i + 1 = omega (arith, some) in
     let its = subst (λ (ws : List Word). slice_get ws i ≡ Some c.word-word.result) c.words_of-words.ensures c.word-word.ensures in
-    let added = subst (λ (n : ℕ). AreAddedFrom t c.args.self.now c.args.number n c.args.bundles.now backs) same c.loop-i.invariant.added in
-    let join = joins t c.args.self.now c.requires.place c.args.number c.requires.number c.args.bundles.now backs i c.word-word.result its added c.in_ok-found.found c.in_ok-found.ensures.join in
+    let added = subst (λ (n : ℕ). AreKeptFrom t c.args.self.now c.args.number n c.args.bundles.now backs) same c.loop-i.invariant.added in
     let within = c.loop-i.invariant.within in
     record {
       within = omega (arith, within);
-      added = subst (AreAddedFrom t c.args.self.now c.args.number i c.args.bundles.now) (sym c.in_ok-push.ensures.items)
-          (one_more t c.args.self.now c.requires.place c.args.number c.requires.number c.args.bundles.now backs i c.word-word.result its added c.requires.last c.after.result c.in_ok-found.found c.after.ensures.node c.after.ensures.right join);
+      added = subst (AreKeptFrom t c.args.self.now c.args.number i c.args.bundles.now) (sym c.in_ok-push.ensures.items)
+          (one_more_kept t c.args.self.now c.args.number c.requires.number c.args.bundles.now backs i c.word-word.result its added c.requires.last c.after.result c.in_ok-found.found c.after.ensures.node c.after.ensures.right c.in_ok-found.ensures.join);
       joins = c.in_ok-found.ensures.kept;
     }
