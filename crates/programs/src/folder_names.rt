@@ -10,7 +10,7 @@ use std::io::ErrorKind;
 use std::string::String;
 use std::{fs, io};
 
-/// The names of the images in a folder, in byte order: of each `NAME.img` that is no directory. A folder that can't be read has none, and a
+/// The names of the images in a folder, in byte order: of each regular file `NAME.img`. A folder that can't be read has none, and a
 /// name that is not UTF-8 can't be given to a program.
 pub fn image_names(rt: &HostRuntime, folder: &str) -> Result<Vec<String>, AllocError>
     ensures named { IfOk result (λ names. AreBare names.items) }

@@ -34,7 +34,7 @@ pub fn image_path(rt: &HostRuntime, name: &str) -> Result<String, AllocError>
 pub(crate) fn is_looked_for(rt: &HostRuntime, name: &str) -> bool
     ensures bare { result ≡ true → IsBare name.now }
 {
-    is_bare(name) && !is_file(rt, name)
+    is_bare(name) && !is_there(rt, name)
 }
 
 /// Whether a name may be that of an image in a folder: it is not empty and has no slash.
@@ -44,7 +44,12 @@ pub(crate) fn is_bare(name: &str) -> bool
     !name.is_empty() && !name.contains('/')
 }
 
-/// Whether there is something at a path, and no directory.
+/// Whether there is a regular file at a path: what else stands in a folder of images, as a pipe, is none.
 pub(crate) fn is_file(rt: &HostRuntime, path: &str) -> bool {
+    fs::metadata(rt, path).is_ok_and(|found| found.is_file())
+}
+
+/// Whether there is something at a path, and no directory.
+fn is_there(rt: &HostRuntime, path: &str) -> bool {
     fs::metadata(rt, path).is_ok_and(|found| !found.is_dir())
 }

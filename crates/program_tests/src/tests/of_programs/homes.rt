@@ -3,6 +3,7 @@
 use crate::tests::{create_in, expect_in_directory, in_directory, write_in};
 use programs::{Surroundings, image_in, image_names, in_byte_order, prefix_of, told_names};
 use std::alloc::{AllocError, Global};
+use std::os::unix::fs::symlink;
 use std::string::String;
 use std::test::Fail;
 use test_words::{joined, words};
@@ -105,12 +106,18 @@ static NAMES: [&str; 9] = [
     "b.img", "B.img", "a.img", "é.img", "a.b.img", "a", "a.dicrc", "img", ".img",
 ];
 
-/// Makes files of these names in a directory, and a folder that has the name of an image.
+/// Makes files of these names in a directory, and a folder, a link to a device and a link to an image that have the names of images.
 fn make_images(rt: &HostRuntime, dir: &str) -> Result<(), Fail> {
     for name in &NAMES {
         write_in(rt, dir, name, b"x")?;
     }
     create_in(rt, dir, "folder.img")?;
+    symlink(
+        rt,
+        "/dev/null",
+        in_directory(rt, dir, "device.img")?.as_str(),
+    )?;
+    symlink(rt, "a.img", in_directory(rt, dir, "link.img")?.as_str())?;
     Ok(())
 }
 
@@ -126,7 +133,7 @@ fn has_images(rt: &HostRuntime, dir: &str, (folder, names): &Listed) -> Result<b
 #[rattlefmt::skip]
 static LISTED: [(&str, Listed); 3] = [
     // (what, (a folder, the names of the images there))
-    ("the directory",           (".",          "B a a.b b é")),
+    ("the directory",           (".",          "B a a.b b link é")),
     ("a folder without images", ("folder.img", "")),
     ("no folder",               ("other.img",  "")),
 ];
