@@ -51,7 +51,7 @@ pub fn compile_image(
         entries: compiled.entries,
         bytes,
     });
-    write_file(rt, options.out.as_str(), &compiled.image)?;
+    write_file(rt, narrator, options.out.as_str(), &compiled.image)?;
     narrator.say(Stage::Written {
         path: options.out.as_str(),
         bytes,

@@ -1,8 +1,9 @@
 //! Why a file or directory can't be read, as it looks after that failed.
 
-use std::fmt::{self, Display, Formatter, Write};
+use std::alloc::{AllocError, Global};
 use std::fs::{self, Metadata};
 use std::io::{Error, ErrorKind};
+use std::string::String;
 
 /// Why the file or directory at a path can't be read.
 #[derive(Clone, Copy)]
@@ -14,6 +15,8 @@ pub enum FileTrouble {
     HasBadName,
     /// It could be opened: a read failed, or came to no end.
     ReadFailed,
+    /// It can't be opened, for this reason of the system's.
+    Other(Error),
 }
 
 impl FileTrouble {
@@ -54,19 +57,29 @@ impl FileTrouble {
         match error.kind() {
             ErrorKind::NotFound => FileTrouble::NotThere,
             ErrorKind::PermissionDenied => FileTrouble::NotAllowed,
-            _ => FileTrouble::ReadFailed,
+            _ => FileTrouble::Other(*error),
         }
     }
-}
 
-impl Display for FileTrouble {
-    fn fmt<W: Write>(&self, f: &mut Formatter<W>) -> fmt::Result {
-        f.write_str(match self {
+    /// What is printed of it.
+    pub(crate) fn text(self, alloc: Global) -> Result<String, AllocError> {
+        let text = match self {
             FileTrouble::NotThere => "it is not there",
             FileTrouble::IsDirectory => "it is a directory",
             FileTrouble::NotAllowed => "permission to read it is missing",
             FileTrouble::HasBadName => "a name in this directory is not UTF-8",
             FileTrouble::ReadFailed => "a read of it failed",
-        })
+            FileTrouble::Other(error) => return reason_of(alloc, &error),
+        };
+        String::from_str(alloc, text)
+    }
+}
+
+/// The system's text of an error, as "No space left on device": without the error's number.
+pub(crate) fn reason_of(alloc: Global, error: &Error) -> Result<String, AllocError> {
+    let text = format!(in alloc; "{error}")?;
+    match text.as_str().split_once(" (os error ") {
+        Some((reason, _number)) => String::from_str(alloc, reason),
+        None => Ok(text),
     }
 }

@@ -1,7 +1,7 @@
 //! What a program says while it works, where `-v` asks for it.
 
 use crate::fault::Fault;
-use crate::file_trouble::FileTrouble;
+use crate::file_trouble::{FileTrouble, reason_of};
 use crate::output::write_whole;
 use crate::stage::Stage;
 use crate::whole_file::WholeFile;
@@ -9,7 +9,7 @@ use command_lines::OneLine;
 use mj_model::{FormatFault, FormatPart, NamedFault, SourceKind};
 use std::alloc::{AllocError, Global};
 use std::fmt::Display;
-use std::io::IsTerminal;
+use std::io::{self, ErrorKind, IsTerminal};
 use std::string::String;
 use std::time::{Duration, Instant};
 
@@ -102,7 +102,7 @@ impl<'a> Narrator<'a> {
             Fault::File(path) => {
                 let path = path.as_str();
                 let trouble = FileTrouble::of(self.rt, path);
-                format!(in self.rt.alloc(); "{}: {trouble}", OneLine(path))
+                line_of(self.rt.alloc(), path, trouble.text(self.rt.alloc()))
             }
             Fault::Format(FormatFault::Bad { part, .. }) => {
                 let option = option_of(*part);
@@ -114,6 +114,17 @@ impl<'a> Narrator<'a> {
             _ => return,
         };
         if let Ok(line) = line {
+            self.tell(&line);
+        }
+    }
+
+    /// Prints the system's reason why the file at a path can't be written.
+    pub(crate) fn print_reason(&self, path: &str, error: &io::Error) {
+        if !self.is_heard() || error.kind() == ErrorKind::OutOfMemory {
+            return;
+        }
+        let alloc = self.rt.alloc();
+        if let Ok(line) = line_of(alloc, path, reason_of(alloc, error)) {
             self.tell(&line);
         }
     }
@@ -149,6 +160,16 @@ impl<'a> Narrator<'a> {
             let _ = write_whole(&mut self.rt.stderr(), text.as_bytes());
         }
     }
+}
+
+/// A path in one line, and a reason.
+fn line_of(
+    alloc: Global,
+    path: &str,
+    reason: Result<String, AllocError>,
+) -> Result<String, AllocError> {
+    let reason = reason?;
+    format!(in alloc; "{}: {reason}", OneLine(path))
 }
 
 /// A mark below a byte of a text that is told in one line.

@@ -7,6 +7,7 @@ ghost use Rattle.programs.specs.Writing.{WasAppended};
 ghost use Rattle.programs.specs.declared.fault.Fault.TheVariants.{File as OfFile};
 
 use crate::fault::Fault;
+use crate::narrator::Narrator;
 use crate::output::write_whole;
 use std::fs::{self, File, OpenFile, OpenOptions, Permissions};
 use std::io::{self, ErrorKind, Write};
@@ -26,32 +27,39 @@ const ACCESS_BITS: u32 = 0o777;
 /// The bytes go to a new file in the same directory, which then takes the name: a failed call
 /// leaves the old file as it was, and no new one where that can be removed. The new file has the
 /// old one's mode before it has a byte, and never a wider one. What is no file, as a device, is
-/// written where it stands. No write that fails is made again.
-pub fn write_file(rt: &HostRuntime, path: &str, bytes: &[u8]) -> Result<(), Fault>
+/// written where it stands. No write that fails is made again. The system's reason of a failure is
+/// printed where `narrator` prints steps, and on a terminal.
+pub fn write_file(
+    rt: &HostRuntime,
+    narrator: &Narrator<'_>,
+    path: &str,
+    bytes: &[u8],
+) -> Result<(), Fault>
     ensures fault { IfErr result (Names OfFile path.now) }
 {
     let process = process::id(rt.process());
-    write_as(rt, process, path, bytes)
+    match write_as(rt, process, path, bytes) {
+        Ok(()) => Ok(()),
+        Err(error) => {
+            narrator.print_reason(path, &error);
+            Err(Fault::of_file(rt.alloc(), path, &error))
+        }
+    }
 }
 
-/// As `write_file`, by the process of this number.
+/// Writes a file as `write_file` does, by the process of this number. Returns the error of the call that failed.
 pub fn write_as<R: Files + AllocGlobal>(
     rt: &R,
     process: u32,
     path: &str,
     bytes: &[u8],
-) -> Result<(), Fault>
+) -> io::Result<()>
     ensures written { OnOk result (WasAppended R.File.contents bytes.now) }
-    ensures fault { IfErr result (Names OfFile path.now) }
 {
-    let written = match fs::metadata(rt, path) {
+    match fs::metadata(rt, path) {
         Ok(old) if old.is_file() => replace_behind(rt, process, path, old.permissions(), bytes),
         Ok(_) => write_device(rt, path, bytes),
         Err(_) => replace(rt, process, path, None, bytes),
-    };
-    match written {
-        Ok(()) => Ok(()),
-        Err(error) => Err(Fault::of_file(rt.alloc(), path, &error)),
     }
 }
 

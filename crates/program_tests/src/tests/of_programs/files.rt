@@ -1,11 +1,11 @@
 //! Files that are read, and those that can't be.
 
 use super::failing_files::FailingFiles;
-use super::names_in;
+use super::{names_in, write};
 use crate::tests::{expect_in_directory, in_directory, new_directory, no_files, write_in};
 use dict_image::DigestTest;
 use mj_model::ImageFault;
-use programs::{Fault, SourceFiles, WholeFile, dictionary_at, read_files, texts, write_file};
+use programs::{Fault, SourceFiles, WholeFile, dictionary_at, read_files, texts};
 use std::alloc::{AllocError, Global};
 use std::io::ErrorKind;
 use std::string::String;
@@ -23,7 +23,7 @@ fn is_file_fault(fault: Option<&Fault>, path: &str) -> bool {
 /// Whether the file at a path can be neither read nor written.
 fn is_refused(rt: &HostRuntime, path: &str) -> bool {
     let read = WholeFile::read(rt, path).err();
-    let written = write_file(rt, path, b"text").err();
+    let written = write(rt, path, b"text").err();
     is_file_fault(read.as_ref(), path) && is_file_fault(written.as_ref(), path)
 }
 

@@ -1,11 +1,11 @@
 //! Files that are written whole or not at all.
 
 use super::failing_files::FailingFiles;
-use super::names_in;
+use super::{names_in, write};
 use crate::tests::{
     create_in, expect_in_directory, in_directory, new_directory, no_files, write_in,
 };
-use programs::{Fault, write_as, write_file};
+use programs::{Fault, write_as};
 use std::alloc::{AllocError, Global};
 use std::fs::{self, Permissions};
 use std::io;
@@ -20,7 +20,7 @@ fn file_in(rt: &HostRuntime, dir: &str) -> io::Result<String> {
 
 /// Whether a file is written, and then has these bytes.
 fn is_kept(rt: &HostRuntime, path: &str, bytes: &[u8]) -> io::Result<bool> {
-    Ok(write_file(rt, path, bytes).is_ok() && has_bytes(rt, path, bytes)?)
+    Ok(write(rt, path, bytes).is_ok() && has_bytes(rt, path, bytes)?)
 }
 
 /// Whether these are the bytes of the file at a path.
@@ -197,7 +197,7 @@ fn modes_are_kept(rt: HostRuntime) -> Result<(), Fail> {
 fn is_link_kept(rt: &HostRuntime, link: &str, file: &str) -> io::Result<bool> {
     fs::write(rt, file, "old")?;
     symlink(rt, "file", link)?;
-    let written = write_file(rt, link, b"new").is_ok();
+    let written = write(rt, link, b"new").is_ok();
     Ok(written && has_bytes(rt, file, b"new")? && fs::symlink_metadata(rt, link)?.is_symlink())
 }
 
@@ -210,7 +210,7 @@ fn is_link_kept_in(rt: &HostRuntime, dir: &str) -> io::Result<bool> {
 
 #[test]
 fn links_are_kept(rt: HostRuntime) -> Result<(), Fail> {
-    assert!(rt; write_file(&rt, "/dev/null", b"new").is_ok());
+    assert!(rt; write(&rt, "/dev/null", b"new").is_ok());
     let dir = new_directory(&rt, "links")?;
     let is_kept = is_link_kept_in(&rt, dir.as_str())?;
     fs::remove_dir_all(&rt, dir.as_str())?;
@@ -220,7 +220,7 @@ fn links_are_kept(rt: HostRuntime) -> Result<(), Fail> {
 
 #[test]
 fn full_devices(rt: HostRuntime) {
-    let is_told = match &write_file(&rt, "/dev/full", b"text") {
+    let is_told = match &write(&rt, "/dev/full", b"text") {
         Err(Fault::File(path)) => path.as_str() == "/dev/full",
         _ => false,
     };
