@@ -1,5 +1,6 @@
 //! All faults of lines of lexicons: after each the run goes on as if its line were empty.
 
+use crate::bad_number::print_bad_number;
 use crate::beside::Beside;
 use crate::file_line::FileLine;
 use mj_model::{FIRST_LEXICON_FILE, NO_FILE, NamedFault, SourceFault, SourceKind};
@@ -30,8 +31,7 @@ pub(crate) fn tell_faults(
     first: SourceFault,
 ) {
     let mut told = Vec::new(rt.alloc());
-    let program = narrator.program();
-    tell_each(rt, program, beside, lexicons, first, &mut told);
+    tell_each(rt, narrator, beside, lexicons, first, &mut told);
     for fault in &told {
         narrator.say_why(fault);
     }
@@ -43,7 +43,7 @@ pub(crate) fn tell_faults(
 /// Tells the faults, and keeps the first one of each code.
 fn tell_each(
     rt: &HostRuntime,
-    program: &str,
+    narrator: &Narrator<'_>,
     beside: Beside<'_>,
     lexicons: &mut [WholeFile],
     first: SourceFault,
@@ -51,20 +51,20 @@ fn tell_each(
 ) {
     let mut fault = first;
     for _told in 1..FAULTS_MAX {
-        keep_code(told, tell(rt, program, lexicons, fault));
+        keep_code(told, tell(rt, narrator, lexicons, fault));
         match fault_without(rt.alloc(), beside, lexicons, fault) {
             Ok(Some(next)) => fault = next,
             Ok(None) => return,
             Err(AllocError) => {
-                Fault::Memory.tell(rt, program);
+                Fault::Memory.tell(rt, narrator.program());
                 keep_code(told, Fault::Memory);
                 return;
             }
         }
     }
-    keep_code(told, tell(rt, program, lexicons, fault));
+    keep_code(told, tell(rt, narrator, lexicons, fault));
     if is_of_a_line(fault) {
-        tell_more(rt, program);
+        tell_more(rt, narrator.program());
     }
 }
 
@@ -86,15 +86,21 @@ fn tell_more(rt: &HostRuntime, program: &str) {
     }
 }
 
-/// Tells a fault, and what its line says.
-fn tell(rt: &HostRuntime, program: &str, lexicons: &[WholeFile], fault: SourceFault) -> Fault {
+/// Tells a fault, what its line says, and which of its fields has no number.
+fn tell(
+    rt: &HostRuntime,
+    narrator: &Narrator<'_>,
+    lexicons: &[WholeFile],
+    fault: SourceFault,
+) -> Fault {
     let path = lexicon_path(lexicons, fault.file);
     let told = Fault::of_source(rt.alloc(), path, fault);
-    told.tell(rt, program);
+    told.tell(rt, narrator.program());
     if let Some(cut) = line_of(lexicons, fault) {
         if let Ok(line) = told_line(rt.alloc(), cut.line) {
             let _ = write_whole(&mut rt.stderr(), line.as_bytes());
         }
+        print_bad_number(rt.alloc(), narrator, path.unwrap_or(""), cut.line, fault);
     }
     told
 }

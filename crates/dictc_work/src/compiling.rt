@@ -4,7 +4,9 @@ ghost use Rattle.std.specs.Prelude.{◌≡◌, ◌∷◌, IfErr, IfOk, map, stri
 ghost use Rattle.programs.specs.Faults.{NamesOneOf};
 
 use crate::all_faults::{is_of_a_line, tell_faults};
+use crate::bad_number::print_bad_number;
 use crate::beside::Beside;
+use crate::file_line::FileLine;
 use crate::matrix_file::MatrixFile;
 use crate::no_image::NoImage;
 use crate::reporting::tell_counts;
@@ -17,7 +19,7 @@ use dict_compile::{
 };
 use dict_image::{Dict, DigestTest};
 use matrix_def::Matrix;
-use mj_model::{OverlayFault, SourceFault};
+use mj_model::{FIRST_LEXICON_FILE, OverlayFault, SourceFault, UNK_FILE};
 use programs::{
     Fault, Narrator, Progress, SourceFiles, Stage, WholeFile, dictionary_at, digest_left,
     lexicon_path, read_files, texts, write_file,
@@ -131,7 +133,7 @@ fn compile_sources(
     });
     let matrix = match costs.matrix() {
         Ok(matrix) => matrix,
-        Err(fault) => return Err(refusal(rt, files, fault)),
+        Err(fault) => return Err(refusal(rt, narrator, files, fault)),
     };
     let sizes = matrix.sizes();
     let fault = match compile_others(rt, matrix, files, narrator) {
@@ -139,7 +141,7 @@ fn compile_sources(
         Err(fault) => fault,
     };
     if !all_faults || !is_of_a_line(fault) {
-        return Err(refusal(rt, files, fault));
+        return Err(refusal(rt, narrator, files, fault));
     }
     let header = format!(in rt.alloc(); "{} {}\n", sizes.right, sizes.left)?;
     let beside = Beside::Definitions {
@@ -152,9 +154,39 @@ fn compile_sources(
 }
 
 /// That there is no image for a fault of these files.
-fn refusal(rt: &HostRuntime, files: &SourceFiles, fault: SourceFault) -> NoImage {
+fn refusal(
+    rt: &HostRuntime,
+    narrator: &Narrator<'_>,
+    files: &SourceFiles,
+    fault: SourceFault,
+) -> NoImage {
+    let file = match fault.file {
+        UNK_FILE => Some(&files.unk),
+        number => lexicon_at(&files.lexicons, number),
+    };
+    if let Some(file) = file {
+        print_number_of(rt, narrator, file, fault);
+    }
     let path = files.path(fault.file);
     NoImage::Fault(Fault::of_source(rt.alloc(), path, fault))
+}
+
+/// Returns the lexicon with a number, counted from `FIRST_LEXICON_FILE`, if there is one.
+fn lexicon_at(lexicons: &[WholeFile], number: u32) -> Option<&WholeFile> {
+    let lexicon = number.checked_sub(FIRST_LEXICON_FILE)?;
+    lexicons.get(lexicon as usize)
+}
+
+/// Prints which field of a fault's line has no number.
+fn print_number_of(
+    rt: &HostRuntime,
+    narrator: &Narrator<'_>,
+    file: &WholeFile,
+    fault: SourceFault,
+) {
+    if let Some(cut) = FileLine::find(&file.bytes, fault.line) {
+        print_bad_number(rt.alloc(), narrator, file.path.as_str(), cut.line, fault);
+    }
 }
 
 /// The same of the costs that were read, or the first fault of the other files.
@@ -199,6 +231,9 @@ fn compile_user_files(
         Err(CompileUserFault::Source(fault)) => fault,
     };
     if !options.all_faults || !is_of_a_line(fault) {
+        if let Some(file) = lexicon_at(&files, fault.file) {
+            print_number_of(rt, narrator, file, fault);
+        }
         let path = lexicon_path(&files, fault.file);
         return Err(NoImage::Fault(Fault::of_source(rt.alloc(), path, fault)));
     }

@@ -3,6 +3,7 @@
 
 mod all_faults;
 mod asked;
+mod bad_number;
 mod beside;
 mod compiling;
 mod file_line;

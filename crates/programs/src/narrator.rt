@@ -54,7 +54,7 @@ impl<'a> Narrator<'a> {
     }
 
     /// Whether a person is told more of a fault than its line: where steps are asked for, and on a terminal.
-    pub(crate) fn is_heard(&self) -> bool {
+    pub fn is_heard(&self) -> bool {
         self.is_asked() || self.rt.stderr().is_terminal()
     }
 
@@ -155,7 +155,7 @@ impl<'a> Narrator<'a> {
     }
 
     /// Writes a line after the program's name, in one write.
-    pub(crate) fn tell<T: Display>(&self, line: &T) {
+    pub fn tell<T: Display>(&self, line: &T) {
         if let Ok(text) = format!(in self.rt.alloc(); "{}: {line}\n", self.program) {
             let _ = write_whole(&mut self.rt.stderr(), text.as_bytes());
         }
