@@ -9,6 +9,7 @@ use crate::beside::Beside;
 use crate::file_line::FileLine;
 use crate::matrix_file::MatrixFile;
 use crate::no_image::NoImage;
+use crate::repeated::warn_of_repeated;
 use crate::reporting::tell_counts;
 use crate::shares::say_shares;
 use crate::step_teller::StepTeller;
@@ -205,6 +206,7 @@ fn compile_others(
     let mut teller = StepTeller::new(narrator, &files.lexicons);
     let compiled = compile_others_watched(rt.alloc(), matrix, &others, &mut teller)?;
     say_longest(rt.alloc(), narrator, &files.lexicons, &lexicons);
+    warn_of_repeated(rt.alloc(), narrator, &lexicons);
     Ok(compiled)
 }
 
@@ -252,5 +254,6 @@ fn compile_lexicons(
     let mut teller = StepTeller::new(narrator, files);
     let compiled = compile_user_watched(rt.alloc(), system, &texts, &mut teller)?;
     say_longest(rt.alloc(), narrator, files, &texts);
+    warn_of_repeated(rt.alloc(), narrator, &texts);
     Ok(compiled)
 }

@@ -1,6 +1,6 @@
-//! The longest surfaces of lexicons.
+//! The longest surfaces of lexicons, and those of most entries.
 
-use dictc_work::{Surface, longest_surface};
+use dictc_work::{Repeated, Surface, longest_surface, most_repeated};
 use std::test::Fail;
 
 /// The bytes of a surface, the number of its lexicon, and its line.
@@ -35,4 +35,22 @@ fn longest_surfaces(rt: HostRuntime) -> Result<(), Fail> {
         assert!(rt; longest_surface(rt.alloc(), &texts) == Ok(wanted), "{what}");
     }
     Ok(())
+}
+
+#[rattlefmt::skip]
+static REPEATED: [(&str, &[&str], Option<Repeated<'static>>); 6] = [
+    // (what, sorted surfaces, the one that most entries have)
+    ("none",               &[],                        None),
+    ("one",                &["も"],                    Some(Repeated { surface: "も", entries: 1 })),
+    ("the first",          &["a", "a", "b"],           Some(Repeated { surface: "a", entries: 2 })),
+    ("the last",           &["a", "ab", "ab"],         Some(Repeated { surface: "ab", entries: 2 })),
+    ("the first of two",   &["", "", "a", "b", "b"],   Some(Repeated { surface: "", entries: 2 })),
+    ("in the middle",      &["a", "b", "b", "b", "c"], Some(Repeated { surface: "b", entries: 3 })),
+];
+
+#[test]
+fn repeated_surfaces(rt: HostRuntime) {
+    for (what, surfaces, most) in &REPEATED {
+        assert!(rt; most_repeated(surfaces) == *most, "{what}");
+    }
 }
