@@ -1,8 +1,6 @@
 -- Nodes of the words that are kept of a text: what was proved of the words of a text holds of the text with its kept words.
-use Rattle.std.proofs.Common.{◌≡◌, ℕ, ◌+◌, ◌-◌, ◌^◌, ◌<◌, ◌≤◌, List, [], ◌∷◌, ◌++◌, All, length, get_or, take, drop, Some, inl, inr, refl, arith, slice_get}
-use Rattle.std.proofs.lemmas.Option.{slice_get_within}
+use Rattle.std.proofs.Common.{◌≡◌, ℕ, ◌+◌, ◌-◌, ◌^◌, ◌<◌, ◌≤◌, List, [], ◌∷◌, ◌++◌, All, length, get_or, take, drop, Some, arith, slice_get}
 use Rattle.mj_model.specs.declared.word.Word.{Word}
-use Rattle.paths.proofs.Pruning.{all_kept}
 use Rattle.mj_model.specs.Bounds.{IsWithin}
 use Rattle.paths.specs.declared.surface.Surface.{Surface}
 use Rattle.path_search.specs.declared.node.Backpointer.{Backpointer}
@@ -14,7 +12,7 @@ use Rattle.path_search.specs.Ends.{HasSmallTotal, IsFollowedBy, IsLeast}
 use Rattle.path_search.specs.Lattice.{node_of}
 use Rattle.path_search.specs.Nodes.{kept_node}
 use Rattle.path_search.specs.Places.{AreKeptFrom}
-use Rattle.path_search.specs.SearchedText.{CanBeSearched, IsLatticeTo, IsPrunedTo, SearchedText, nodes_in, with_words, word_count}
+use Rattle.path_search.specs.SearchedText.{IsLatticeTo, IsPrunedTo, SearchedText, nodes_in, with_words, word_count}
 use Rattle.path_search.proofs.AddedWords.{all_copied, joins, many, next_surface_added, one_more, pairs, small, totals}
 use Rattle.path_search.proofs.Growth.{goes_on}
 use Rattle.path_search.proofs.WordNumbers.{no_surface}
@@ -82,20 +80,4 @@ lattice_goes_on t p bundles backs h = record {
   kept = h.kept;
   pruned = h.pruned;
   lattice = goes_on h.kept t.connection t.text_length h.place.source.source (nodes_in t bundles backs) p.start h.added.lattice;
-}
-
--- before the first place nothing was added, and all words are kept
-pub lattice_begins : (t : SearchedText) → CanBeSearched t → IsLatticeTo t [] 0
-lattice_begins t source = record {
-  kept = t.words;
-  pruned = record { searched = source; pruned = all_kept t.words t.connection; later = λ q more. refl };
-  lattice = record {
-    best = λ i n at. absurd (cc);
-    done = λ i n at. absurd (cc);
-    order = λ i j m n less at_i at_j. absurd (cc);
-    complete = λ w ws chain done. elim done [
-      | inl less ↦ absurd (omega (arith, less))
-      | inr at ↦ let low = slice_get_within (t.words 0) at.1.0 w at.1.2 in absurd (omega (arith, low, at.1.1))
-    ];
-  };
 }

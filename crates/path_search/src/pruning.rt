@@ -5,7 +5,6 @@
 //! no more nodes of it than four for each right id.
 
 ghost use Rattle.std.specs.Prelude.{◌≡◌, ◌^◌, ◌+ℤ◌, ◌<◌, OnOk, length};
-ghost use Rattle.std.specs.List.{AllByRecursion};
 ghost use Rattle.mj_model.specs.Bounds.{IsWithin};
 ghost use Rattle.mj_model.specs.Lists.{GrowsBy};
 ghost use Rattle.paths.specs.Surfaces.{IsWhole};

@@ -17,13 +17,6 @@ use Rattle.paths.proofs.ChainsBackLemmas.{best_path_from, chain_forward, chain_r
 pub all_are_part : (ws : List Word) → ArePartOf ws ws
 all_are_part ws = record { among = λ w h. h; in_order = λ v w s. s }
 
--- with no word left out each chain serves in its own place
-pub all_kept : (words : ℕ → List Word) (conn : ℕ → ℕ → ℤ) → ArePruned words words conn
-all_kept words conn = record {
-  part = λ p. all_are_part (words p);
-  served = λ ws to h. record { chain = ws; leads = h; right = refl; no_worse = inr (refl, inl refl) };
-}
-
 -- ---- words that differ from a place on alone
 
 module _ (a b : ℕ → List Word) (len p : ℕ) (are : AreWords a len) (same : (q : ℕ) → q < p → a q ≡ b q) where
