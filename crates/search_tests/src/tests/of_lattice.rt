@@ -4,6 +4,7 @@ pub(crate) mod asked;
 mod dictionaries;
 mod found;
 mod growths;
+mod many_words;
 mod starved;
 
 use super::all_match;
