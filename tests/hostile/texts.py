@@ -6,6 +6,8 @@ Most of them are hostile over a dictionary that is compiled for them:
     blanks                   words end at 4,096 positions of one run of blanks, beside a line of
                              words
     left ids of a surface    each entry of one surface has its own left id, beside as many surfaces
+    entries of a surface     a surface has 1,000 entries with the same ids, beside one; in 512 MiB
+                             of memory
     unknown entries          a category of LENGTH 15 has many unknown entries, beside one that the
                              text does not have; 0.3 s in all
     quotes in a feature      a field of quotes precedes the one that is printed, beside short

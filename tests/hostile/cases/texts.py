@@ -4,12 +4,14 @@ from pathlib import Path
 from typing import NamedTuple, Sequence
 
 from hostile.cases.dictionaries import CATEGORIES, MAPPINGS, NAMES, Sources
-from hostile.cases.measuring import MARKS, Case, Run
+from hostile.cases.measuring import MARKS, MEMORY, Case, Run
 
 # The number of characters of the longest unknown word of HIRAGANA.
 LONGEST_UNKNOWN = 15
 # Seconds of processor time of a text of many unknown words, with the start of jseg and the load.
 UNKNOWN_SECONDS = 0.3
+# The same of a text of a surface with many entries, each of which is read at each position.
+ENTRIES_SECONDS = 10
 # The fields of a feature, and the number of the last one that can be printed.
 COMMAS = 65_540
 LAST_FIELD = 65_535
@@ -26,6 +28,7 @@ class Sizes(NamedTuple):
     unknown_entries: int = 4_000
     quotes: int = 100_000
     words: int = 10_000
+    surface_words: int = 100_000
     ranges: int = 20_000
     above: int = 260_000
     stem: int = 8_000
@@ -34,7 +37,13 @@ class Sizes(NamedTuple):
 
 # Sizes that show the same ratios within seconds.
 QUICK = Sizes(
-    line_bytes=2**18, entries=1_500, words=1_000, above=30_000, stem=2_000, stem_line=2**15
+    line_bytes=2**18,
+    entries=1_500,
+    words=1_000,
+    surface_words=30_000,
+    above=30_000,
+    stem=2_000,
+    stem_line=2**15,
 )
 
 
@@ -88,6 +97,24 @@ def left_ids(builder: Builder) -> Case:
         builder.run(honest, MARKS, "".join(surfaces[:40]), "w" * 40),
         builder.run(hostile, MARKS, "あ" * 40, "w" * 40),
     )
+
+
+def many_entries(builder: Builder) -> Case:
+    """A surface has 1,000 entries with the same ids, of which one can be on a best path.
+
+    A search with a node for each takes 24 bytes for each at each position: 2.4 GB. In the honest
+    input the surface has one entry.
+    """
+    text = "あ" * builder.sizes.surface_words
+
+    def run(count: int, memory: int) -> Run:
+        lexicon = "".join(f"あ,1,1,{count - i},x\n" for i in range(count))
+        made = builder.run(builder.image(Sources(lexicon)), MARKS, text, "w" * len(text))
+        return made._replace(memory=memory)
+
+    size = f"1,000 entries; {len(text.encode()) // 1024} KiB of あ"
+    honest, hostile = run(1, MEMORY), run(1_000, 512 << 20)
+    return Case("entries of a surface", size, honest, hostile, ENTRIES_SECONDS)
 
 
 def unknown_entries(builder: Builder) -> Case:
@@ -240,6 +267,7 @@ def stem(builder: Builder) -> Case:
 CASES = (
     blanks,
     left_ids,
+    many_entries,
     unknown_entries,
     quotes,
     commas,
