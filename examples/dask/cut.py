@@ -1,11 +1,11 @@
-"""Cuts a file of many lines on the workers of dask.distributed, and writes what `jseg` would:
+"""Segments a file of many lines on the workers of dask.distributed, and writes what `jseg` prints.
 
     python3 cut.py IMAGE [--scheduler ADDRESS | --workers N] [--format wakati] [--part BYTES] \\
         TEXT WORDS
 
-Each worker reads its parts of TEXT by itself, so the path leads to the file on each of their machines, and the dictionary
-is installed there. A line that can't be cut ends the run with its number in the file, after the lines before it were
-written.
+Each worker reads its parts of TEXT by itself, so the file must have this path on each of their
+machines, and the dictionary must be installed there. An invalid line ends the run with its number
+in the file, after the lines before it were written.
 """
 import argparse
 import sys
@@ -16,7 +16,7 @@ from distributed import Client, Future
 from kumquatsieve import Cutter, Fault
 
 
-# Some lines of a file: its path, their first byte and the one after their last.
+# A part of a file, of whole lines: the path, the first byte, and the byte after the last one.
 Part = Tuple[str, int, int]
 
 
@@ -28,7 +28,7 @@ def read(part: Part) -> bytes:
 
 
 def parts_of(path: str, size: int) -> Iterator[Part]:
-    """A file in parts that end at line ends."""
+    """Splits a file into parts of about `size` bytes that end at line ends."""
     with open(path, "rb") as file:
         start, whole = 0, file.seek(0, 2)
         while start < whole:
@@ -39,8 +39,11 @@ def parts_of(path: str, size: int) -> Iterator[Part]:
             start = end
 
 
-def cut(cutter: Cutter, part: Part) -> Tuple[str, Optional[Fault]]:
-    """What a part's lines give up to a fault, and the fault. The cutter comes pickled, and its worker loads the dictionary once."""
+def segment(cutter: Cutter, part: Part) -> Tuple[str, Optional[Fault]]:
+    """Returns the text of a part's lines up to an error, and the error.
+
+    The Cutter comes pickled, and its worker loads the dictionary once.
+    """
     printed: List[str] = []
     try:
         for text in cutter.parse_lines(read(part)):
@@ -51,7 +54,7 @@ def cut(cutter: Cutter, part: Part) -> Tuple[str, Optional[Fault]]:
 
 
 def line_of(part: Part, fault: Fault) -> int:
-    """The number in the file of the line that is at fault."""
+    """Returns the number in the file of the invalid line."""
     path, start, _ = part
     lines = 0
     with open(path, "rb") as file:
@@ -60,15 +63,18 @@ def line_of(part: Part, fault: Fault) -> int:
     return lines + (fault.place or 0)
 
 
-def cut_all(client: Client, cutter: Cutter, parts: Iterator[Part], words: str) -> None:
-    """Writes what all parts give, in order. No more of them are under way than keep the workers busy."""
+def segment_all(client: Client, cutter: Cutter, parts: Iterator[Part], words: str) -> None:
+    """Writes the text of all parts, in order.
+
+    No more of them are segmented at once than keep the workers busy.
+    """
     most = 2 * sum(client.nthreads().values())
     waiting: Deque[Tuple[Part, Future]] = deque()
     with open(words, "w", encoding="utf-8", newline="\n") as out:
         for part in parts:
             if len(waiting) >= most:
                 write_first(waiting, out)
-            waiting.append((part, client.submit(cut, cutter, part, pure=False)))
+            waiting.append((part, client.submit(segment, cutter, part, pure=False)))
         while waiting:
             write_first(waiting, out)
 
@@ -87,20 +93,21 @@ def main() -> None:
     )
     options.add_argument("image", metavar="IMAGE", help="an image, by its path or its name")
     options.add_argument(
-        "--scheduler", help="of a cluster that runs; without it one of this machine is made"
+        "--scheduler", help="of a running cluster; without it one is started on this machine"
     )
-    options.add_argument("--workers", type=int, default=4, help="of the cluster that is made")
+    options.add_argument("--workers", type=int, default=4, help="of the cluster that is started")
     options.add_argument("--format", choices=["wakati"])
     options.add_argument(
-        "--part", type=int, default=10_000_000, help="how many bytes a worker gets at once"
+        "--part", type=int, default=10_000_000, help="how many bytes a worker segments at once"
     )
-    options.add_argument("text", metavar="TEXT", help="the file to cut")
+    options.add_argument("text", metavar="TEXT", help="the file to segment")
     options.add_argument("words", metavar="WORDS", help="the file to write")
-    given = options.parse_args()
-    here = {"n_workers": given.workers, "threads_per_worker": 1, "dashboard_address": None}
-    cutter = Cutter(given.image, format=given.format)
-    with Client(**({"address": given.scheduler} if given.scheduler else here)) as client:
-        cut_all(client, cutter, parts_of(given.text, given.part), given.words)
+    arguments = options.parse_args()
+    here = {"n_workers": arguments.workers, "threads_per_worker": 1, "dashboard_address": None}
+    cutter = Cutter(arguments.image, format=arguments.format)
+    cluster = {"address": arguments.scheduler} if arguments.scheduler else here
+    with Client(**cluster) as client:
+        segment_all(client, cutter, parts_of(arguments.text, arguments.part), arguments.words)
 
 
 if __name__ == "__main__":

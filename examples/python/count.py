@@ -1,4 +1,4 @@
-"""Counts the nouns of a text, and prints those that it has most often."""
+"""Counts the nouns of a text, and prints the most frequent ones."""
 import argparse
 import sys
 from collections import Counter
@@ -8,10 +8,10 @@ from kumquatsieve import Cutter, Fault
 options = argparse.ArgumentParser(description=__doc__)
 options.add_argument("image", metavar="IMAGE", help="an image, by its path or its name")
 options.add_argument("text", metavar="TEXT", help="a file in UTF-8")
-given = options.parse_args()
-counts = Counter()
+arguments = options.parse_args()
+counts: Counter[str] = Counter()
 try:
-    with Cutter(given.image) as cutter, open(given.text, "rb") as text:
+    with Cutter(arguments.image) as cutter, open(arguments.text, "rb") as text:
         for words in cutter.lines(text):
             counts.update(word.surface for word in words if word.features[0] == "名詞")
 except (OSError, Fault) as error:

@@ -1,4 +1,4 @@
-"""Cuts each line of standard input, and prints its words as jseg does."""
+"""Segments each line of standard input, and prints its words as jseg does."""
 import argparse
 import sys
 
@@ -6,14 +6,14 @@ from kumquatsieve import Cutter, Fault
 
 options = argparse.ArgumentParser(description=__doc__)
 options.add_argument("image", metavar="IMAGE", help="an image, by its path or its name")
-options.add_argument("format", nargs="?", choices=["wakati"], help="words with a blank between two")
+options.add_argument("format", nargs="?", choices=["wakati"], help="words joined by blanks")
 
 
 def main() -> None:
-    given = options.parse_args()
-    cutter = Cutter(given.image, format=given.format)
-    sys.stdout.reconfigure(encoding="utf-8", newline="\n")
-    sys.stdout.writelines(cutter.parse_lines(sys.stdin.buffer))
+    arguments = options.parse_args()
+    cutter = Cutter(arguments.image, format=arguments.format)
+    texts = cutter.parse_lines(sys.stdin.buffer)
+    sys.stdout.buffer.writelines(text.encode() for text in texts)
 
 
 try:
