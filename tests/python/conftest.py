@@ -1,4 +1,5 @@
-"""The images that the tests cut with: of the sample, which `tests/python/run` compiles into the folder that a variable names."""
+"""The images of the tests, of the sample. `tests/python/run` compiles them into a folder that a
+variable names."""
 import hashlib
 import os
 from pathlib import Path

@@ -1,5 +1,7 @@
-"""The blocks of docs/PYTHON.md that are neither a program nor a session: each is run, and what it gives is looked at. `tests/docs/run.py` runs the
-others."""
+"""Runs the blocks of docs/PYTHON.md that are neither a program nor a session, and checks results.
+
+`tests/docs/run.py` runs the others.
+"""
 import gzip
 import multiprocessing
 import re
@@ -30,7 +32,8 @@ def printed(_given, _seen, folder):
     return (folder / "words.txt").read_text(encoding="utf-8")
 
 
-# What only one block has; what it is given; what is looked at, of the lines that it comes to at `...`, what it prints, the names and the folder.
+# By a text that only one block has: the names that it is given, and the check of the lines that it
+# reaches at `...`, of its output, of its names and of its folder.
 ROWS = {
     'errors="replace"': (
         lambda folder: corpus(folder, TEXT.encode() + b"\xff\n"),

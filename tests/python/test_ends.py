@@ -159,7 +159,8 @@ def test_what_nobody_has_any_more_is_given_back(system):
 
 
 def test_what_nobody_has_any_more_gives_all_memory_back(system):
-    """A cut of this line takes more than 100 MB, and a traceback may be the last that has the handle."""
+    """The segmentation of this line takes more than 100 MB, and a traceback may have the last
+    reference to the handle."""
     sizes = []
     for _ in range(6):
         assert Cutter(system).wakati(LONG)

@@ -84,8 +84,11 @@ def systems(prefix):
 
 @pytest.fixture
 def installed(tmp_path, monkeypatch):
-    """The folder of what is made at run time under a prefix whose jseg a shell would run; the user's own and that of what came with jseg are
-    there too, all empty. A folder to stand in."""
+    """Returns the image directory for new images of the prefix whose jseg a shell runs.
+
+    The user's own directory, and that for the images of packages, exist too. All are empty. The
+    current folder is another one.
+    """
     prefix, here = tmp_path / "prefix", tmp_path / "here"
     for folder in (prefix / "bin", *systems(prefix), here, tmp_path / "data" / "kumquatsieve"):
         folder.mkdir(parents=True)

@@ -1,4 +1,4 @@
-"""Lattices: their nodes worked by hand, and beside a list of all paths; rivals; and what is shown of them."""
+"""Lattices: nodes worked out by hand and compared with all paths, rivals, and what is shown."""
 import pickle
 import random
 import shutil
@@ -14,8 +14,10 @@ from kumquatsieve import Cutter, Lattice, Node, _handle, _lattice
 JSEG = Path(__file__).resolve().parents[2] / "crates" / "jseg" / "out" / "jseg"
 LINE = "すもももも"
 BLANK = "もも "
-# The nodes of lines over the sample's sources, in their order, worked by hand: surface, start and end in characters, word cost, the least cost up
-# to the node and that through it, and whether it is on the best path. BOS costs 10 before a word, EOS 5 behind it, and two words 7.
+# The nodes of lines with the sample's dictionary, in their order, worked out by hand: surface,
+# start and end in characters, word cost, forward cost, the least cost of a path with the node, and
+# whether it is on the best path. The connection of BOS and a word costs 10, of a word and EOS 5,
+# and of two words 7.
 NODES = {
     "": [],
     "  ": [],
@@ -44,7 +46,8 @@ DEAD = [
     (BLANK, 0, 3, 500, 510, 515, True),
     ("も", 1, 2, 20, 57, None, False),
 ]
-# For each word of the best path the node that lost by least of those in its place with other boundaries, and what it lost by.
+# For each word of the best path the node that lost by least, of those at its position with other
+# boundaries, and what it lost by.
 RIVALS = {
     LINE: [("すもも", None, None), ("もも", "も", 17)],
     "桃太郎も": [("桃太", "桃", 0), ("郎", "太郎", 0), ("も", None, None)],
@@ -95,7 +98,7 @@ def ends_at(text, start):
 
 
 def paths_of(text, place=0):
-    """All paths of a text from a place on, each a list of the beginnings, ends and costs of its words."""
+    """Returns all paths of a text from a position on: the starts, ends and costs of their words."""
     start = place
     while start < len(text) and text[start] == " ":
         start += 1
@@ -113,7 +116,8 @@ def cost_of(path):
 
 
 def listed(text):
-    """The nodes of a text by a list of all its paths: each with the least cost up to it and the least through it."""
+    """Returns the nodes of all paths of a text, with their forward costs and the least costs of
+    paths with them."""
     found = {}
     for path in paths_of(text):
         for number, word in enumerate(path):
@@ -441,7 +445,7 @@ def test_what_is_drawn_is_well_formed_xml(system, marked):
 
 
 def test_a_notebook_shows_a_drawing_or_a_table(system, monkeypatch, tmp_path):
-    """A drawing where Graphviz is there; a table where it is not, or where it fails or takes too long."""
+    """A drawing if Graphviz is installed; a table if it is not, fails, or takes too long."""
     if shutil.which("dot"):
         drawn = Cutter(system).lattice(LINE)
         assert (

@@ -88,7 +88,8 @@ def test_each_source_gives_its_lines(cutter, monkeypatch, way, source, piece):
     assert call(cutter, SOURCES[source](TEXT)) == wanted
 
 
-# A text without a line feed at its end, with carriage returns, with other ends that are none, and none at all.
+# Texts without a line feed at the end, with carriage returns, with characters that end no line, and
+# without a line.
 ENDS = [
     ("もも", ["もも"]),
     ("もも\r\nもも\r\n", ["もも", "もも"]),

@@ -28,7 +28,8 @@ def count_loads():
 
 
 def cut(cutter):
-    """A task of a worker: its words, its process and how many system dictionaries this has loaded. It closes what it got."""
+    """A task of a worker. Returns its words, its process, and how many system dictionaries the
+    process has loaded. It closes the cutter that it got."""
     with cutter:
         return cutter.wakati(LINE), os.getpid(), loads
 

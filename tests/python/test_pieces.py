@@ -9,7 +9,8 @@ from kumquatsieve import Cutter, Fault, Format, _handle, _sources
 from kumquatsieve._library import ready_size
 
 LONGEST = 2**20
-# Lines with each kind of end and with characters of one, three and four bytes; the last one has no line feed.
+# Lines with each kind of end and with characters of one, three and four bytes. The last one has no
+# line feed.
 MIXED = "もも\r\nすもももも\r\n\r\n𠮷\n\r\r\nもも\r"
 JOINED = ["もも", "すもも もも", "", "𠮷", "\r", "もも \r"]
 WAYS = [Cutter.wakati_lines, Cutter.parse_lines]

@@ -52,7 +52,8 @@ def answers(first):
 
 
 def interrupted(call, step):
-    """What is raised before a step of a call, which are Python's own; None where it hasn't so many."""
+    """Raises before a step of a call in Python. Returns what the call raised, and None if it has
+    fewer steps."""
     steps = 0
 
     def trace(frame, event, _):
@@ -104,7 +105,10 @@ def is_closed_by_another_thread(cutter):
 
 @pytest.mark.parametrize("name", CALLS)
 def test_an_exception_before_any_step_leaves_nothing_behind(first, answers, name):
-    """A call with a new handle, and then one between two calls that want another format. They answer as ever, and `close` ends."""
+    """Interrupts a call with a new handle, and then one between two calls with another format.
+
+    The other calls return what they always return, and `close` ends.
+    """
     call, other = CALLS[name], "wakati" if name == "cut" else "cut"
     for step in count(1):
         cutter = first.share()
@@ -162,7 +166,7 @@ def test_a_close_before_any_step_of_which_an_exception_comes_is_made_again(first
 
 
 def test_no_exception_is_lost_where_a_cutter_ends(first, monkeypatch):
-    """As one is that comes in a method of Python's that is called there; what holds the library's memory wouldn't be given back either."""
+    """An exception in a destructor in Python would be lost, and the library's memory not freed."""
     lost = []
     monkeypatch.setattr(sys, "unraisablehook", lost.append)
 

@@ -83,7 +83,8 @@ COMMON = [
     (["pos1", "lemma"], {"lemma": 1}),
 ]
 NOT_COMMON = ["conjugation_type", "reading", "base_form"]
-# An image, a link to it, or none, the files of names that are there, and what the fields are called: as the import writes the file.
+# An image, a link to it, or none, the files of names beside it, and the names of the fields, as
+# kumquatsieve-import writes them.
 BESIDE = [
     ("kept/a.img", "a.img", {"kept/a.fields": "there"}, ("there",)),
     ("kept/a.img", "a.img", {"a.fields": "here"}, ()),
@@ -260,7 +261,7 @@ def test_names_beside_what_has_no_checksum(system, tmp_path):
 
 
 def test_names_by_hand(named, system):
-    """They are taken in place of those beside the image, and for an image in memory too; a process that gets the cutter has them."""
+    """They replace those beside the image, apply to an image in memory too, and are pickled."""
     for image in (named, system, Path(system).read_bytes()):
         cutter = Cutter(image, fields=[None, "yomi"])
         assert (cutter.fields, [word.yomi for word in cutter.cut(LINE)]) == (
