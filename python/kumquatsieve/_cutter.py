@@ -17,7 +17,7 @@ if TYPE_CHECKING:
     from typing import Any, Dict, List, Optional, Sequence, Tuple, Type, Union
 
     from ._formats import Format
-    from ._handle import Answers
+    from ._handle import Outputs
     from ._images import Image, Origin
     from ._lattice import Lattice
     from ._lines import Lines
@@ -25,7 +25,12 @@ if TYPE_CHECKING:
     from ._words import Words
 
 # Methods of a handle, which Python would look up in the class at each call.
-TOLD, LATTICED, SURFACES_OF, PRINTED = Handle.told, Handle.latticed, Handle.surfaces, Handle.printed
+WORDS_OF, NODES_OF, SURFACES_OF, TEXT_OF = (
+    Handle.words,
+    Handle.nodes,
+    Handle.surfaces,
+    Handle.text_of,
+)
 
 
 class Cutter:
@@ -77,7 +82,7 @@ class Cutter:
         self._names = with_common(self._fields)
         self._handles = LOADED.new(self._origin, image, users, test_digest)
         self._texts = texts_of(format)
-        self._handles.call(PRINTED, b"", self._texts)
+        self._handles.call(TEXT_OF, b"", self._texts)
         self.set_grouping(grouping)
 
     @property
@@ -144,7 +149,7 @@ class Cutter:
         return self._words(line_of(line))
 
     def _words(self, text: bytes) -> Words:
-        return words_of(text, self._handles.call(TOLD, text, WORDS), self._names)
+        return words_of(text, self._handles.call(WORDS_OF, text, WORDS), self._names)
 
     def lattice(self, line: str) -> Lattice:
         """Returns the lattice of a line, which shows why the line was segmented so.
@@ -154,7 +159,7 @@ class Cutter:
         from ._lattice import lattice_of
 
         text = line_of(line)
-        return lattice_of(text, self._handles.call(LATTICED, text, None), self._names)
+        return lattice_of(text, self._handles.call(NODES_OF, text, None), self._names)
 
     def wakati(self, line: str) -> List[str]:
         """Returns the surfaces of the words of a line."""
@@ -162,7 +167,7 @@ class Cutter:
 
     def parse(self, line: str) -> str:
         """Returns the text of a line in the Cutter's format."""
-        return self._handles.call(PRINTED, encoded(line), self._texts)
+        return self._handles.call(TEXT_OF, encoded(line), self._texts)
 
     def format(
         self,
@@ -177,7 +182,7 @@ class Cutter:
         Without `node` there is a line for each word, with its feature.
         """
         return self._handles.call(
-            PRINTED, encoded(line), texts_of((NODE if node is None else node, unk, bos, eos))
+            TEXT_OF, encoded(line), texts_of((NODE if node is None else node, unk, bos, eos))
         )
 
     def lines(self, source: Source, errors: str = "strict") -> Lines[Words]:
@@ -211,10 +216,10 @@ class Cutter:
 
         return lines_at_once(errors, source, self._printed_lines)
 
-    def _joined(self, text: bytes) -> Answers:
+    def _joined(self, text: bytes) -> Outputs:
         return self._handles.call(Handle.joined_lines, text, WAKATI)
 
-    def _printed_lines(self, text: bytes) -> Answers:
+    def _printed_lines(self, text: bytes) -> Outputs:
         return self._handles.call(Handle.printed_lines, text, self._texts)
 
 

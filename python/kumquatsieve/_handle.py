@@ -20,10 +20,10 @@ if TYPE_CHECKING:
 
     # Of a line the cost of its path, the records of its words or of its nodes, and the surface and
     # the feature of each.
-    Told = Tuple[int, bytes, List[str]]
+    LineRecords = Tuple[int, bytes, List[str]]
 
     # The output of each line of a text up to the first invalid one, and the error of that one.
-    Answers = Tuple[List[str], Optional[Exception]]
+    Outputs = Tuple[List[str], Optional[Exception]]
 
 GROUPING = 24
 
@@ -150,7 +150,7 @@ class Handle:
             raise_fault(code)
         self.grouping = grouping
 
-    def told(self, line: bytes, texts: Texts) -> Told:
+    def words(self, line: bytes, texts: Texts) -> LineRecords:
         """Returns the total cost, records and texts of a line's words, by the format `WORDS`."""
         if texts is not self._texts:
             self.set_format(texts)
@@ -161,16 +161,16 @@ class Handle:
         lines = buffers.text_of(PRINT, self._at).split("\n")
         lines.pop()
         if FIELDS.size * len(lines) != 2 * len(records):
-            lines = list(self._told_apart(line, records))
+            lines = list(self._texts_one_by_one(line, records))
         return total, records, lines
 
-    def _told_apart(self, line: bytes, records: bytes) -> Iterator[str]:
+    def _texts_one_by_one(self, line: bytes, records: bytes) -> Iterator[str]:
         """Yields the texts of a line's words one by one, in case a feature has a line feed."""
         for number, (_, start, end, *_) in enumerate(FIELDS.iter_unpack(records)):
             yield line[start:end].decode()
             yield self._buffers.text_of(feature_of(number), self._at)
 
-    def latticed(self, line: bytes, _: object) -> Told:
+    def nodes(self, line: bytes, _: object) -> LineRecords:
         """Returns the total cost, records and texts of the nodes of a line's lattice."""
         self._cut(line)
         total = self._buffers.total.value
@@ -198,11 +198,11 @@ class Handle:
 
     def surfaces(self, line: bytes, texts: Texts) -> List[str]:
         """Returns the surfaces of a line's words, by the format `SURFACES`."""
-        lines = self.printed(line, texts).split("\n")
+        lines = self.text_of(line, texts).split("\n")
         lines.pop()
         return lines
 
-    def printed(self, line: bytes, texts: Texts) -> str:
+    def text_of(self, line: bytes, texts: Texts) -> str:
         """Returns the text of a line in a format. The line may have a line feed at its end.
 
         The library segments and prints it in one call.
@@ -221,7 +221,7 @@ class Handle:
             buffers.lines_at,
         )
         if code != OK:
-            self._refuse(line, code)
+            self._raise_error(line, code)
         return buffers.text_lent()
 
     def _one_line(self, line: bytes) -> bytes:
@@ -231,12 +231,12 @@ class Handle:
             self._cut(line)
         return line
 
-    def _refuse(self, line: bytes, code: int) -> None:
+    def _raise_error(self, line: bytes, code: int) -> None:
         """Raises the error of a line. The call that only segments reports the position in it."""
         self._cut(line)
         raise_fault(code)
 
-    def joined_lines(self, text: bytes, texts: Texts) -> Answers:
+    def joined_lines(self, text: bytes, texts: Texts) -> Outputs:
         """Returns the surfaces of each line of a text, joined by blanks, by the format `WAKATI`.
 
         Each line prints a line feed at its end, and no other: a surface is a part of a line, so it
@@ -244,11 +244,11 @@ class Handle:
         line feed of the line before precedes it.
         """
         printed, _, fault = self._cut_lines(text, texts)
-        answers = printed.replace(" \n", "\n").split("\n")
-        answers.pop()
-        return answers, fault
+        outputs = printed.replace(" \n", "\n").split("\n")
+        outputs.pop()
+        return outputs, fault
 
-    def printed_lines(self, text: bytes, texts: Texts) -> Answers:
+    def printed_lines(self, text: bytes, texts: Texts) -> Outputs:
         """Returns the text of each line of a text in a format.
 
         A mark before the output of each line separates it from the one before. Any mark may occur
@@ -259,10 +259,10 @@ class Handle:
         """
         node, unk, bos, eos = texts
         printed, count, fault = self._cut_lines(text, (node, unk, MARK.encode() + bos, eos))
-        answers = printed.split(MARK)
-        if len(answers) != 1 + count:
+        outputs = printed.split(MARK)
+        if len(outputs) != 1 + count:
             return self._one_by_one(lines_of(text), texts)
-        return answers[1:], fault
+        return outputs[1:], fault
 
     def _cut_lines(self, text: bytes, texts: Texts) -> Tuple[str, int, Optional[Exception]]:
         """Segments all lines of a text by one call of the library.
@@ -285,15 +285,15 @@ class Handle:
             return printed, buffers.lines.value - 1, fault_of(code)
         return printed, buffers.lines.value, None
 
-    def _one_by_one(self, lines: List[bytes], texts: Texts) -> Answers:
+    def _one_by_one(self, lines: List[bytes], texts: Texts) -> Outputs:
         """Returns the text of each line in a format, by one call for each."""
-        answers: List[str] = []
+        outputs: List[str] = []
         try:
             for line in lines:
-                answers.append(self.printed(line, texts))
+                outputs.append(self.text_of(line, texts))
         except (Fault, MemoryError) as fault:
-            return answers, fault
-        return answers, None
+            return outputs, fault
+        return outputs, None
 
     def _cut(self, line: bytes) -> None:
         buffers = self._buffers

@@ -163,11 +163,11 @@ def own() -> Set[Handle]:
 ALL: Set["weakref.ref[Handles]"] = set()
 
 
-def begin_in_child() -> None:
+def forget_in_child() -> None:
     for known in list(ALL):
         handles = known()
         if handles is not None:
             handles.after_fork()
 
 
-os.register_at_fork(after_in_child=begin_in_child)
+os.register_at_fork(after_in_child=forget_in_child)

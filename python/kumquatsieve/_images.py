@@ -115,10 +115,10 @@ def is_system(path: str) -> bool:
     """Returns whether a file starts as a system dictionary. One that can't be read does not."""
     try:
         with open(path, "rb") as file:
-            begin = file.read(KIND.stop)
+            start = file.read(KIND.stop)
     except OSError:
         return False
-    return begin.startswith(MAGIC) and begin[KIND] == SYSTEM
+    return start.startswith(MAGIC) and start[KIND] == SYSTEM
 
 
 def path_of(image: Union[str, "os.PathLike[str]"]) -> str:
@@ -128,12 +128,12 @@ def path_of(image: Union[str, "os.PathLike[str]"]) -> str:
     if not path:
         raise FileNotFoundError(
             f"{name}: no file, and no image of this name is installed; "
-            f"{told_installed(dictionaries())}"
+            f"{list_of_installed(dictionaries())}"
         )
     return path
 
 
-def told_installed(installed: Dict[str, str]) -> str:
+def list_of_installed(installed: Dict[str, str]) -> str:
     return (
         f"installed are: {', '.join(installed)}"
         if installed
@@ -153,7 +153,7 @@ def default() -> str:
     if len(installed) == 1:
         return next(iter(installed))
     raise FileNotFoundError(
-        f"no dictionary is named, by the call or by {VARIABLE}; {told_installed(installed)}"
+        f"no dictionary is named, by the call or by {VARIABLE}; {list_of_installed(installed)}"
     )
 
 

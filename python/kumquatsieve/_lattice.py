@@ -10,7 +10,7 @@ from ._shown import html_of, table_of
 from ._words import Line, Word, Words, of_record
 
 if TYPE_CHECKING:
-    from ._handle import Told
+    from ._handle import LineRecords
 
 # The program that draws, and how many seconds it may take. A lattice that takes longer is shown as
 # a table.
@@ -150,7 +150,7 @@ class Lattice:
         )
 
     def _columns(self) -> Tuple[List[str], List[List[str]]]:
-        return HEAD, [[told(getattr(node, name)) for name in HEAD] for node in self.nodes]
+        return HEAD, [[cell_of(getattr(node, name)) for name in HEAD] for node in self.nodes]
 
     def __repr__(self) -> str:
         return table_of(*self._columns(), numbers=4)
@@ -210,7 +210,7 @@ class Free:
         return number
 
 
-def told(value: Any) -> str:
+def cell_of(value: Any) -> str:
     """Returns the text of a value in a table."""
     return "" if value is None or value is False else "*" if value is True else str(value)
 
@@ -237,9 +237,9 @@ def drawn(graph: str) -> Optional[str]:
     return svg[svg.index("<svg") :] if done.returncode == 0 and "<svg" in svg else None
 
 
-def lattice_of(text: bytes, told_nodes: "Told", names: Dict[str, int]) -> Lattice:
+def lattice_of(text: bytes, found: "LineRecords", names: Dict[str, int]) -> Lattice:
     """Returns the lattice of a line from the total cost, records and texts of its nodes."""
-    total, records, texts = told_nodes
+    total, records, texts = found
     line, each = NodesLine(text, records, names, total), iter(texts)
     nodes: List[Node] = []
     for surface, feature, number in zip(each, each, count()):

@@ -7,7 +7,7 @@ from ._sources import Source, checked, lines_as_they_come, pieces
 from ._texts import Encoder
 
 if TYPE_CHECKING:
-    from ._handle import Answers
+    from ._handle import Outputs
 
 T = TypeVar("T")
 
@@ -18,9 +18,9 @@ class Lines(Generic[T]):
     `replaced` is how many U+FFFD have replaced bytes that are not UTF-8 so far.
     """
 
-    def __init__(self, errors: str, begin: Callable[[Encoder], Iterator[T]]) -> None:
+    def __init__(self, errors: str, start: Callable[[Encoder], Iterator[T]]) -> None:
         self._encoder = Encoder(errors)
-        self._running = begin(self._encoder)
+        self._running = start(self._encoder)
 
     def __iter__(self) -> Iterator[T]:
         return self._running
@@ -33,22 +33,22 @@ class Lines(Generic[T]):
         return self._encoder.replaced
 
 
-def one_by_one(source: Source, answer: Callable[[bytes], T]) -> Callable[[Encoder], Iterator[T]]:
+def one_by_one(source: Source, segment: Callable[[bytes], T]) -> Callable[[Encoder], Iterator[T]]:
     """Returns a function that starts an iterator over the result of each line, line by line."""
 
-    def begin(encoder: Encoder) -> Iterator[T]:
+    def start(encoder: Encoder) -> Iterator[T]:
         for number, line in enumerate(lines_as_they_come(source, encoder), 1):
             try:
-                answered = answer(line)
+                result = segment(line)
             except Fault as fault:
                 raise placed(fault, number) from None
-            yield answered
+            yield result
 
-    return begin
+    return start
 
 
 def many_at_once(
-    source: Source, answer: "Callable[[bytes], Answers]"
+    source: Source, segment: "Callable[[bytes], Outputs]"
 ) -> Callable[[Encoder], Iterator[str]]:
     """Returns a function that starts an iterator over the results, a megabyte of lines at a time.
 
@@ -58,23 +58,23 @@ def many_at_once(
     def batches(encoder: Encoder) -> Iterator[List[str]]:
         number = 0
         for text in pieces(source, encoder):
-            answers, fault = answer(text)
-            yield answers
-            number += len(answers)
+            outputs, fault = segment(text)
+            yield outputs
+            number += len(outputs)
             if fault is not None:
                 raise placed(fault, number + 1) from None
 
     return lambda encoder: chain.from_iterable(batches(encoder))
 
 
-def lines_one_by_one(errors: str, source: Source, answer: Callable[[bytes], T]) -> Lines[T]:
+def lines_one_by_one(errors: str, source: Source, segment: Callable[[bytes], T]) -> Lines[T]:
     """Returns an iterator over the result of each line, as soon as the line is there."""
-    return Lines(errors, one_by_one(checked(source), answer))
+    return Lines(errors, one_by_one(checked(source), segment))
 
 
-def lines_at_once(errors: str, source: Source, answer: "Callable[[bytes], Answers]") -> Lines[str]:
+def lines_at_once(errors: str, source: Source, segment: "Callable[[bytes], Outputs]") -> Lines[str]:
     """Returns an iterator over the result of each line. The source is read by the megabyte."""
-    return Lines(errors, many_at_once(checked(source), answer))
+    return Lines(errors, many_at_once(checked(source), segment))
 
 
 def placed(fault: Exception, number: int) -> Exception:

@@ -52,9 +52,9 @@ class Loaded:
     def __init__(self) -> None:
         self._known: Dict[Key, "weakref.ref[Handles]"] = {}
         self._kept: Dict[Origin, Tuple[Key, Handles]] = {}
-        self.begin()
+        self.reset()
 
-    def begin(self) -> None:
+    def reset(self) -> None:
         """Starts without a lock, also in the child of a fork, which has no thread to release it."""
         self._locks: Dict[str, threading.RLock] = {}
 
@@ -109,4 +109,4 @@ class Loaded:
 
 
 LOADED = Loaded()
-os.register_at_fork(after_in_child=LOADED.begin)
+os.register_at_fork(after_in_child=LOADED.reset)

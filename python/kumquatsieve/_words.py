@@ -10,7 +10,7 @@ TYPE_CHECKING = False
 if TYPE_CHECKING:
     from typing import Any, Dict, Iterable, List, Optional, Tuple
 
-    from ._handle import Told
+    from ._handle import LineRecords
 
 # The reading in a table is the first of these fields that a dictionary has. UniDic's `kana` is the
 # reading of the word as it is written.
@@ -48,9 +48,9 @@ class Line:
         """Yields the start and end of each word, counting characters from word to word."""
         characters = previous = 0
         for _, start, end, *_ in FIELDS.iter_unpack(self.records):
-            begin = characters + len(self.text[previous:start].decode())
-            characters, previous = begin + len(self.text[start:end].decode()), end
-            yield begin, characters
+            first = characters + len(self.text[previous:start].decode())
+            characters, previous = first + len(self.text[start:end].decode()), end
+            yield first, characters
 
 
 def of_record(number: int, what: str) -> Any:
@@ -187,9 +187,9 @@ class Words(list[Word]):
         return html_of(*self._columns())
 
 
-def words_of(text: bytes, told: Told, names: Dict[str, int]) -> Words:
+def words_of(text: bytes, found: LineRecords, names: Dict[str, int]) -> Words:
     """Returns the words of a line from their total cost, records and texts."""
-    total, records, texts = told
+    total, records, texts = found
     line, each = Line(text, records, names), iter(texts)
     words = Words()
     words.total = total
