@@ -28,8 +28,8 @@ CALLS = {
 }
 
 
-def begun(call):
-    """A thread that has begun a call, which goes on for a while."""
+def started(call):
+    """Starts a thread that makes a call, which takes a while."""
     thread = threading.Thread(target=call)
     thread.start()
     time.sleep(0.02)
@@ -65,7 +65,7 @@ def test_close_waits_for_the_calls_that_run(system, call):
     """While they do, this thread runs too."""
     cutter, done = Cutter(system, format=Format("%m", eos="")), []
     threads = [
-        begun(lambda: done.append("".join(call(cutter, LONG)).replace(" ", ""))) for _ in range(2)
+        started(lambda: done.append("".join(call(cutter, LONG)).replace(" ", ""))) for _ in range(2)
     ]
     assert len(cutter._handles.running()) == 2
     cutter.close()
@@ -77,7 +77,7 @@ def test_close_waits_for_the_calls_that_run(system, call):
 
 def test_two_threads_close_at_once(system):
     cutter = Cutter(system)
-    threads = [begun(call) for call in (lambda: cutter.wakati(LONG), cutter.close, cutter.close)]
+    threads = [started(call) for call in (lambda: cutter.wakati(LONG), cutter.close, cutter.close)]
     for thread in threads:
         thread.join(WAIT)
     assert not any(thread.is_alive() for thread in threads)
@@ -93,7 +93,7 @@ def test_closing_under_load_ends_each_thread(system):
         except ValueError as error:
             found.append(str(error))
 
-    threads = [begun(cut) for _ in range(4)]
+    threads = [started(cut) for _ in range(4)]
     cutter.close()
     for thread in threads:
         thread.join(WAIT)
@@ -111,7 +111,7 @@ def test_closing_during_cuts_gives_all_memory_back(system):
     sizes = []
     for _ in range(8):
         cutter = Cutter(system)
-        thread = begun(lambda: cutter.wakati(LONG))
+        thread = started(lambda: cutter.wakati(LONG))
         cutter.close()
         thread.join(WAIT)
         sizes.append(resident())
@@ -198,7 +198,7 @@ def in_child(call):
 def test_a_fork_during_cuts_leaves_a_child_that_cuts_and_closes(system):
     cutter = Cutter(system)
     threads = [
-        begun(lambda call=call: list(call(cutter, LONG)))
+        started(lambda call=call: list(call(cutter, LONG)))
         for call in (Cutter.wakati, Cutter.wakati_lines, Cutter.parse_lines)
     ]
 
@@ -222,7 +222,7 @@ def test_forks_under_load(system):
             with copy.copy(cutter) as other:
                 assert cutter.wakati(LINE) == other.wakati(LINE) == WORDS
 
-    threads = [begun(work) for _ in range(3)]
+    threads = [started(work) for _ in range(3)]
     try:
         assert [in_child(lambda: CALLS["wakati"](cutter)) for _ in range(40)] == [0] * 40
     finally:

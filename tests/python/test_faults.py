@@ -23,7 +23,7 @@ def parts_of(fault):
     return fault.code, fault.name, fault.number, fault.part, fault.place, fault.at
 
 
-def refused(image):
+def rejected(image):
     Cutter(image).cut("a\ud800")
 
 
@@ -46,5 +46,5 @@ def test_a_fault_is_the_same_again(given, said, again):
 def test_a_fault_in_a_worker_comes_to_whoever_waits(system, start):
     with multiprocessing.get_context(start).Pool(1) as pool:
         with pytest.raises(Fault) as fault:
-            pool.apply_async(refused, (system,)).get(WAIT)
+            pool.apply_async(rejected, (system,)).get(WAIT)
     assert (fault.value.code, fault.value.at) == ("G3", 1)

@@ -161,12 +161,12 @@ def test_users_are_a_list(system, user, form):
 
 
 @pytest.mark.parametrize("image", [b"", bytearray(), memoryview(b"")])
-def test_an_empty_image_is_refused(image):
+def test_an_empty_image_is_rejected(image):
     with pytest.raises(Fault, match="L1 Truncated"):
         Cutter(image)
 
 
-def test_an_empty_file_is_refused(tmp_path):
+def test_an_empty_file_is_rejected(tmp_path):
     (tmp_path / "empty.img").touch()
     with pytest.raises(Fault, match="L1 Truncated"):
         Cutter(tmp_path / "empty.img")
@@ -174,7 +174,7 @@ def test_an_empty_file_is_refused(tmp_path):
 
 @pytest.mark.parametrize("form", [str, read])
 @pytest.mark.parametrize("names", [("damaged", "user"), ("system", "damaged_user")])
-def test_another_digest_is_refused_where_it_is_tested(request, names, form):
+def test_another_digest_is_rejected_where_it_is_tested(request, names, form):
     image, user = (form(request.getfixturevalue(name)) for name in names)
     with pytest.raises(Fault, match="L8 Digest"):
         Cutter(image, [user], test_digest=True)

@@ -1,4 +1,4 @@
-"""A line's own end is no part of it, and another line is refused."""
+"""A line's own end is no part of it, and another line is rejected."""
 from collections import UserString
 
 import pytest
@@ -68,7 +68,7 @@ def test_a_lines_own_end_is_dropped(cutter, call, line, words):
 
 @pytest.mark.parametrize("call", CALLS)
 @pytest.mark.parametrize("line", MORE)
-def test_more_than_one_line_is_refused(cutter, call, line):
+def test_more_than_one_line_is_rejected(cutter, call, line):
     with pytest.raises(Fault, match="K1 LineFeed at byte [0-9]+: .*more than one line"):
         call(cutter, line)
 

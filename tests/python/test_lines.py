@@ -124,7 +124,7 @@ def test_what_is_before_a_fault_comes_first(cutter, way, source):
 @pytest.mark.parametrize("piece", [3, 1_000_000])
 @pytest.mark.parametrize("way", WAYS)
 @pytest.mark.parametrize("bad", BAD)
-def test_what_is_no_utf_8_is_refused_or_replaced(cutter, monkeypatch, way, bad, piece):
+def test_what_is_no_utf_8_is_rejected_or_replaced(cutter, monkeypatch, way, bad, piece):
     monkeypatch.setattr(_sources, "PIECE", piece)
     text, call = b"a\n" + bad + b"\nb\n", BEGIN[way]
     answers = call(cutter, io.BytesIO(text))
@@ -139,7 +139,7 @@ def test_what_is_no_utf_8_is_refused_or_replaced(cutter, monkeypatch, way, bad, 
 
 @pytest.mark.parametrize("source", [lambda text: text, io.StringIO, lambda text: [text]])
 @pytest.mark.parametrize("way", WAYS)
-def test_half_of_a_pair_is_refused_or_replaced(cutter, way, source):
+def test_half_of_a_pair_is_rejected_or_replaced(cutter, way, source):
     with pytest.raises(Fault, match="line 1: G3"):
         next(BEGIN[way](cutter, source("a\udc80b\ud800")))
     answers = BEGIN[way](cutter, source("a\udc80b\ud800"), errors="replace")
@@ -312,7 +312,7 @@ def test_a_file_may_give_a_byte_at_a_time(file, sign, end):
 
 
 @pytest.mark.parametrize("way", WAYS)
-def test_an_exception_of_the_source_comes_behind_the_lines_before_it(cutter, way):
+def test_an_exception_of_the_source_follows_the_lines_before_it(cutter, way):
     def source():
         yield from LINES[:2]
         raise OSError("the source's")
@@ -327,7 +327,7 @@ def test_an_exception_of_the_source_comes_behind_the_lines_before_it(cutter, way
 
 @pytest.mark.parametrize("change", [bytearray.clear, lambda text: text.extend(text), bytearray.pop])
 @pytest.mark.parametrize("way", WAYS)
-def test_a_text_that_changes_its_size_is_refused(cutter, monkeypatch, way, change):
+def test_a_text_that_changes_its_size_is_rejected(cutter, monkeypatch, way, change):
     monkeypatch.setattr(_sources, "PIECE", 8)
     text = bytearray(b"ab\n" * 10)
     answers = BEGIN[way](cutter, text)
@@ -338,7 +338,7 @@ def test_a_text_that_changes_its_size_is_refused(cutter, monkeypatch, way, chang
 
 
 @pytest.mark.parametrize("way", WAYS)
-def test_two_lines_for_one_are_refused(cutter, way):
+def test_two_lines_for_one_are_rejected(cutter, way):
     with pytest.raises(Fault, match="line 2: K1") as fault:
         list(BEGIN[way](cutter, ["もも", "もも\nもも", "もも"]))
     assert fault.value.at == 6
@@ -417,7 +417,7 @@ def test_a_part_for_unknown_words_alone(cutter):
     assert cutter.format("もも zz", unk="?", eos="") == "もも\t名詞,もも\n?"
 
 
-def test_formats_are_refused_when_the_cutter_is_made(system):
+def test_formats_are_rejected_when_the_cutter_is_made(system):
     with pytest.raises(Fault, match="P2 BadItem eos 1"):
         Cutter(system, format=Format("%m", eos=".%q"))
     for format in ("chasen", 3, ("%m", "%m"), b"wakati"):

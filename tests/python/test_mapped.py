@@ -98,11 +98,11 @@ def test_a_process_maps_a_file_once_until_its_last_cutter_ends(image, user):
     assert mappings(image) == mappings(user) == 0
 
 
-def test_what_is_refused_is_not_mapped(image, user, damaged):
-    for refused, how in ((user, {}), (damaged, {"test_digest": True})):
+def test_what_is_rejected_is_not_mapped(image, user, damaged):
+    for rejected, how in ((user, {}), (damaged, {"test_digest": True})):
         with pytest.raises(Fault):
-            Cutter(refused, **how)
-        assert mappings(refused) == 0
+            Cutter(rejected, **how)
+        assert mappings(rejected) == 0
     with pytest.raises(Fault):
         Cutter(image, [image])
     assert mappings(image) == 0

@@ -19,7 +19,7 @@ def test_the_version_is_that_of_the_programs():
 
 
 def test_what_is_installed_has_the_same_version():
-    """Where the module stands in its folder of the project there is nothing to compare."""
+    """The module in its folder of the project has no version to compare."""
     if Path(kumquatsieve.__file__).resolve().is_relative_to(TOP / "python"):
         pytest.skip("the module is not installed")
     assert importlib.metadata.version("kumquatsieve") == kumquatsieve.__version__
@@ -72,13 +72,13 @@ def test_a_library_that_is_not_there_is_named():
 
 
 @pytest.mark.parametrize(
-    "has_lock, told",
+    "has_lock, message",
     [("True", ""), ("False", "ImportError: this Python runs threads without its lock (GIL)")],
 )
-def test_a_python_without_its_lock_is_refused(has_lock, told):
+def test_a_python_without_its_lock_is_rejected(has_lock, message):
     code = f"import sys; sys._is_gil_enabled = lambda: {has_lock}; import kumquatsieve"
     done = subprocess.run([sys.executable, "-c", code], capture_output=True, text=True)
-    assert (done.returncode, told in done.stderr) == (1 if told else 0, True)
+    assert (done.returncode, message in done.stderr) == (1 if message else 0, True)
 
 
 @pytest.mark.parametrize("hidden", [False, True])

@@ -16,7 +16,7 @@ loads = 0
 
 
 def count_loads():
-    """What a worker begins with."""
+    """Counts the loads of a worker, which starts with this."""
     whole = Handle.open
 
     def load(*given):

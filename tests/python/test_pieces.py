@@ -37,7 +37,7 @@ def test_a_text_may_be_parted_anywhere(cutter, monkeypatch, kind):
         assert list(cutter.parse_lines(kind(MIXED))) == printed, piece
 
 
-# What a text is, the text, the line that is refused, and the fault.
+# What a text is, the text, the line that is rejected, and the fault.
 REFUSED = [
     ("no text in line 3", "もも\nもも\n".encode() + b"\xff\nab\n", 3, "G3"),
     ("a half character before a line feed", "もも\nもも\n".encode() + b"a\xe3\x82\nab\n", 3, "G3"),
@@ -46,7 +46,7 @@ REFUSED = [
     ("a line too long", b"ab\n" * 2 + b"z" * (LONGEST + 1) + b"\nab\n", 3, "G4"),
     ("a line far too long", b"ab\n" + "も".encode() * LONGEST + b"\nab\n", 2, "G4"),
     ("the last line too long", b"ab\n" * 2 + b"z" * (LONGEST + 1), 3, "G4"),
-    ("no text behind a line too long", b"z" * (LONGEST + 1) + b"\n\xff\n", 1, "G4"),
+    ("no text after a line too long", b"z" * (LONGEST + 1) + b"\n\xff\n", 1, "G4"),
     ("line 301", b"ab\n" * 300 + b"\xff\n" + b"ab\n" * 300 + b"\xff\n", 301, "G3"),
 ]
 
@@ -110,7 +110,7 @@ def test_outputs_may_have_any_character(system, odd, marked, format, text):
         assert list(cutter.parse_lines(text)) == [cutter.parse(line) for line in text.splitlines()]
 
 
-def test_a_fault_behind_a_mark_has_its_place(cutter):
+def test_an_error_after_a_mark_has_its_line(cutter):
     answers = cutter.parse_lines(f"もも\n{MARK}\n".encode() + b"\xff\n")
     assert len([next(answers), next(answers)]) == 2
     with pytest.raises(Fault, match="line 3: G3"):
@@ -130,16 +130,16 @@ def test_a_megabyte_is_one_call(cutter, monkeypatch, way):
 
 
 @pytest.mark.parametrize("way", WAYS)
-def test_out_of_memory_comes_behind_the_lines_before_it(cutter, monkeypatch, way):
+def test_out_of_memory_follows_the_lines_before_it(cutter, monkeypatch, way):
     """As the library says it at a line."""
     real = _handle.CUT_LINES
 
-    def refused(at, text, length, out, size, lines):
+    def rejected(at, text, length, out, size, lines):
         assert real(at, text, ready_size(text.index(b"\n") + 1), out, size, lines) == 0
         lines._obj.value = 2
         return 1
 
-    monkeypatch.setattr(_handle, "CUT_LINES", refused)
+    monkeypatch.setattr(_handle, "CUT_LINES", rejected)
     answers = way(cutter, "もも\nもも\nもも\n")
     assert next(answers)
     with pytest.raises(MemoryError):

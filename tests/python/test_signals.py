@@ -30,7 +30,7 @@ CALLS = {
     "wakati_lines": lambda cutter: list(cutter.wakati_lines(LINE)),
     "parse_lines": lambda cutter: list(cutter.parse_lines(LINE)),
 }
-# Where the steps of a call are that leave something behind.
+# The files with the steps of a call that change a state.
 FILES = {
     os.path.join(os.path.dirname(kumquatsieve.__file__), name)
     for name in ("_cutter.py", "_handles.py", "_handle.py", "_buffers.py")

@@ -109,7 +109,7 @@ def test_a_grouping_may_be_any_kind_of_integer(system):
     )
 
 
-def test_a_grouping_that_is_refused_leaves_that_before(system):
+def test_a_grouping_that_is_rejected_leaves_that_before(system):
     cutter = Cutter(system, grouping=3)
     with pytest.raises(Fault, match="K4"):
         cutter.set_grouping(1001)

@@ -310,7 +310,7 @@ def test_names_that_fields_cannot_have(system, tmp_path, names):
 
 
 @pytest.mark.parametrize("text", ["", "\n\n"])
-def test_a_file_without_names_is_refused(system, tmp_path, text):
+def test_a_file_without_names_is_rejected(system, tmp_path, text):
     image = Path(shutil.copy(system, tmp_path / "sample.img"))
     image.with_suffix(".fields").write_text(text)
     with pytest.raises(ValueError, match="sample.fields: it names no field"):
