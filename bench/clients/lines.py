@@ -4,7 +4,6 @@
 
 WAY is one of `WAYS`. All lines are read before.
 """
-import importlib
 import sys
 from typing import TYPE_CHECKING, Any, Callable, Iterator
 
@@ -17,8 +16,9 @@ Segment = Callable[[str], object]
 
 def mecab(dictionary: str, output: str = "") -> Any:
     """Returns a tagger of MeCab's module, which has no types."""
-    tagger = importlib.import_module("MeCab").Tagger
-    return tagger(f"-r /dev/null -d {dictionary}{output}")
+    import MeCab
+
+    return MeCab.Tagger(f"-r /dev/null -d {dictionary}{output}")
 
 
 def cutter_of(dictionary: str, format: "str | None" = None) -> "Cutter":

@@ -3,19 +3,23 @@
     start.py mecab|ours DICTIONARY
 
 The last line that it prints is a list in JSON: the elapsed seconds and the CPU seconds, from before
-the import of the module to the first words. Then it waits until standard input ends.
+the import of the module to the first words. Then it waits until standard input ends. It imports
+nothing that the modules import too, so that their imports count.
 """
-import importlib
-import json
 import sys
 import time
-from typing import Callable
+
+TYPE_CHECKING = False
+if TYPE_CHECKING:
+    from typing import Callable
 
 
-def segmenter_of(module: str, dictionary: str) -> Callable[[str], str]:
+def segmenter_of(module: str, dictionary: str) -> "Callable[[str], str]":
     """Opens a dictionary, and returns the function that segments a line with it."""
     if module == "mecab":
-        tagger = importlib.import_module("MeCab").Tagger(f"-r /dev/null -d {dictionary} -O wakati")
+        import MeCab
+
+        tagger = MeCab.Tagger(f"-r /dev/null -d {dictionary} -O wakati")
         return lambda line: str(tagger.parse(line)).strip()
     from kumquatsieve import Cutter
 
@@ -30,7 +34,7 @@ def main() -> None:
     segment = segmenter_of(module, dictionary)
     words = segment(line)
     taken = [time.perf_counter() - elapsed, time.process_time() - cpu]
-    print(f"{words}\n{json.dumps(taken)}", flush=True)
+    print(f"{words}\n{taken}", flush=True)
     sys.stdin.read()
 
 
