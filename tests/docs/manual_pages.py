@@ -23,8 +23,8 @@ from pathlib import Path
 from typing import Iterator, List, Set, Tuple
 
 sys.dont_write_bytecode = True
-sys.path[:0] = [str(Path(__file__).resolve().parents[up]) for up in (1, 2)]
-sys.path.insert(0, str(Path(__file__).resolve().parents[2] / "importer"))
+TESTS = Path(__file__).resolve().parents[1]
+sys.path[:0] = [str(TESTS), str(TESTS.parent / "importer")]
 from cli.completion.checks import faults as completion_differences  # noqa: E402
 from support.running import LEFT_OUT, TOP, leave_out, program  # noqa: E402
 
