@@ -13,6 +13,8 @@ if TYPE_CHECKING:
 # A field with the blanks before it, in quotes or without. Quotes within quotes are doubled. What
 # follows a closing quote is no part of the field.
 FIELD = r'[ \t]*(?:"((?:[^"]|"")*)"?[^,]*|([^,]*))'
+# It may precede the names. The codec `utf-8-sig` drops it too, but is imported only for that.
+BYTE_ORDER_MARK = "\ufeff"
 # The first line of a file of names that belongs to one image has this and the image's checksum,
 # which is the last bytes of the image.
 CHECKSUM = "; image-sha256 "
@@ -58,8 +60,8 @@ def names_beside(image: Union[str, "os.PathLike[str]"], taken: Iterable[str]) ->
     target = os.path.realpath(image)
     path = target.removesuffix(ENDING) + ".fields"
     try:
-        with open(path, encoding="utf-8-sig") as file:
-            names = file.read().splitlines()
+        with open(path, encoding="utf-8") as file:
+            names = file.read().removeprefix(BYTE_ORDER_MARK).splitlines()
     except OSError as error:
         if error.errno in NO_FILE:
             return {}
