@@ -1,40 +1,53 @@
 #!/usr/bin/env python3
-"""Lists all paths of small texts by brute force, and checks `jseg --lattice tsv` and `jseg --why` by them:
+"""Checks `jseg --lattice tsv` and `jseg --why` against a list of all paths, by brute force:
 
     tests/cli/all_paths.py
 
-The words of a place are found here once more, from the source files: those of the lexicon, and unknown ones by the categories of char.def. From
-them each chain of words from the beginning is listed, and of those each that goes to the end. A word stands in the lattice exactly if a chain has it.
-Its total is the least cost of the chains up to it, and its through the least cost of the paths that have it. The best path costs the least of all. A
-word of it lost to its rival by what the least of the paths without the word's boundaries costs more, and has no rival where there is none. The texts
-are all of up to five characters over two small dictionaries: the sample, and one in which many paths cost the same. The status is 1 where jseg says
-something else.
+The words at each position are computed here from the source files: those of the lexicon, and
+unknown words by the categories of char.def. All chains of words from the start of a text are
+listed; a chain that reaches the end is a path. Then
 
-Wanted: crates/jseg/out/jseg, which `rt run` in its folder leaves. Where it is not there the status is 77, and nothing was checked.
+- a word is in the lattice if and only if a chain has it;
+- its total is the least cost of the chains up to it, and its `through` the least cost of its paths;
+- the best path has the least cost of all paths;
+- a word of it lost to its rival by the cost that the best path without the word's boundaries has
+  more, and it has no rival if there is no such path.
+
+The texts are all of up to five characters, over two small dictionaries: the sample, and one in
+which many paths have the same cost. The status is 1 if jseg prints anything else.
+
+Needs crates/jseg/out/jseg, which `rt run` in its directory builds. If it is missing the status is
+77, and nothing was checked.
 """
 import itertools
-import subprocess
 import sys
 import tempfile
 from pathlib import Path
-from typing import NamedTuple
+from typing import Dict, Iterator, List, NamedTuple, Optional, Sequence, Set, Tuple
 
-TOP = Path(__file__).resolve().parents[2]
-JSEG = TOP / "crates" / "jseg" / "out" / "jseg"
-SAMPLE = TOP / "examples" / "sample"
+sys.dont_write_bytecode = True
+sys.path.insert(0, str(Path(__file__).resolve().parents[1]))
+from support.running import SAMPLE, end_left_out, program, run  # noqa: E402
+
+JSEG = program("jseg")
+# The greatest number of characters after the first that are grouped to an unknown word.
 GROUPING = 24
-# A dictionary in which many paths cost the same.
+# A dictionary in which many paths have the same cost.
 TIES = {
     "matrix.def": "2 2\n0 0 0\n0 1 1\n1 0 1\n1 1 0\n",
     "char.def": "DEFAULT 0 1 0\nSPACE 0 1 0\nLATIN 1 0 2\n0x0020 SPACE\n0x0061..0x007A LATIN\n",
     "unk.def": "DEFAULT,1,1,9,?\nSPACE,1,1,9,?\nLATIN,1,1,3,x\nLATIN,1,1,2,y\n",
     "lexicon.csv": "a,1,1,1,A\nb,1,1,1,B\nab,1,1,2,AB\nba,1,1,2,BA\naba,1,1,3,ABA\nbb,0,1,1,BB\n",
 }
-TEXTS = {"the sample": "すもa ー", "ties": "ab z"}
+# The characters of the texts, by dictionary.
+CHARACTERS = {"the sample": "すもa ー", "ties": "ab z"}
+
+# A row of a table of jseg.
+Row = List[str]
 
 
 class Word(NamedTuple):
-    """A word of a text, by characters."""
+    """A word of a text. `place`, `start` and `end` are counted in characters."""
 
     place: int
     start: int
@@ -46,195 +59,219 @@ class Word(NamedTuple):
     feature: str
 
 
+class Entry(NamedTuple):
+    """A line of a lexicon or of unk.def."""
+
+    surface: str
+    left: int
+    right: int
+    cost: int
+    feature: str
+
+
 class Category(NamedTuple):
+    """INVOKE, GROUP and LENGTH of char.def."""
+
     invoke: bool
     group: bool
     length: int
 
 
-class Sources:
-    """The tables of a directory. Each character has one category."""
+Chain = Tuple[Word, ...]
 
-    def __init__(self, folder):
+
+def read_entries(path: Path) -> List[Entry]:
+    rows = [line.split(",", 4) for line in path.read_text().splitlines()]
+    return [
+        Entry(surface, int(left), int(right), int(cost), feature)
+        for surface, left, right, cost, feature in rows
+    ]
+
+
+class Sources:
+    """The tables of a directory of sources. Each character has one category."""
+
+    def __init__(self, folder: Path) -> None:
         rows = [line.split() for line in (folder / "matrix.def").read_text().splitlines()[1:]]
         self.connection = {(int(right), int(left)): int(cost) for right, left, cost in rows}
-        self.categories, self.ranges = {}, []
+        self.categories: Dict[str, Category] = {}
+        self.ranges: List[Tuple[int, int, str]] = []
         for line in (folder / "char.def").read_text().splitlines():
-            first, *rest = line.split()
-            if first.startswith("0x"):
-                low, _, high = first.partition("..")
-                self.ranges.append((int(low, 16), int(high or low, 16), rest[0]))
-            else:
-                self.categories[first] = Category(rest[0] == "1", rest[1] == "1", int(rest[2]))
-        self.unknown, self.lexicon = self.entries(folder / "unk.def"), self.entries(
-            folder / "lexicon.csv"
-        )
+            self.read_char_line(line.split())
+        self.unknown = read_entries(folder / "unk.def")
+        self.lexicon = read_entries(folder / "lexicon.csv")
 
-    @staticmethod
-    def entries(path):
-        rows = [line.split(",", 4) for line in path.read_text().splitlines()]
-        return [
-            (surface, int(left), int(right), int(cost), feature)
-            for surface, left, right, cost, feature in rows
-        ]
+    def read_char_line(self, fields: Sequence[str]) -> None:
+        first, *rest = fields
+        if first.startswith("0x"):
+            low, _, high = first.partition("..")
+            self.ranges.append((int(low, 16), int(high or low, 16), rest[0]))
+        else:
+            self.categories[first] = Category(rest[0] == "1", rest[1] == "1", int(rest[2]))
 
-    def name(self, char):
-        return next(
-            (name for low, high, name in self.ranges if low <= ord(char) <= high), "DEFAULT"
-        )
+    def category_of(self, char: str) -> str:
+        for low, high, name in self.ranges:
+            if low <= ord(char) <= high:
+                return name
+        return "DEFAULT"
 
-    def words(self, text, place):
-        """All words of a place."""
+    def words_at(self, text: str, place: int) -> List[Word]:
+        """Returns all words at a position: after blanks, the known words and the unknown ones."""
         start = place
-        while start < len(text) and self.name(text[start]) == "SPACE":
+        while start < len(text) and self.category_of(text[start]) == "SPACE":
             start += 1
         if start == len(text):
             return []
         known = [
-            Word(place, start, start + len(surface), left, right, cost, "known", feature)
-            for surface, left, right, cost, feature in self.lexicon
-            if text.startswith(surface, start)
+            Word(place, start, start + len(one.surface), *one[1:4], "known", one.feature)
+            for one in self.lexicon
+            if text.startswith(one.surface, start)
         ]
-        name = self.name(text[start])
+        name = self.category_of(text[start])
         return known + [
-            Word(place, start, start + count, left, right, cost, "unknown", feature)
-            for count in self.spans(text[start:], self.categories[name], bool(known))
-            for category, left, right, cost, feature in self.unknown
-            if category == name
+            Word(place, start, start + count, *one[1:4], "unknown", one.feature)
+            for count in self.unknown_lengths(text[start:], bool(known))
+            for one in self.unknown
+            if one.surface == name
         ]
 
-    def spans(self, text, category, is_known):
-        """How many characters unknown words have that begin here."""
+    def unknown_lengths(self, text: str, is_known: bool) -> List[int]:
+        """Returns the lengths of the unknown words at the start of `text`, in characters."""
+        name = self.category_of(text[0])
+        category = self.categories[name]
         if is_known and not category.invoke:
             return []
-        run = len(
-            list(itertools.takewhile(lambda char: self.name(char) == self.name(text[0]), text))
-        )
+        run = len(list(itertools.takewhile(lambda char: self.category_of(char) == name, text)))
         grouped = [run] if category.group and run - 1 <= GROUPING else []
         longest = min(category.length, run - 1 if category.group else run)
         return grouped + list(range(1, longest + 1)) or ([] if is_known else [1])
 
-    def chains(self, text, before=()):
-        """All chains of words from the beginning, each with whether it is a path."""
-        words = self.words(text, before[-1].end if before else 0)
+    def chains(self, text: str, before: Chain = ()) -> Iterator[Tuple[Chain, bool]]:
+        """Yields all chains of words that start with `before`, and whether each is a path."""
+        words = self.words_at(text, before[-1].end if before else 0)
         yield before, not words
         for word in words:
             yield from self.chains(text, (*before, word))
 
-    def cost(self, chain, ends):
+    def cost(self, chain: Chain, is_path: bool) -> int:
         rights = [0, *(word.right for word in chain)]
-        lefts = [*(word.left for word in chain), *([0] if ends else [])]
-        return sum(self.connection[pair] for pair in zip(rights, lefts)) + sum(
-            word.cost for word in chain
-        )
+        lefts = [*(word.left for word in chain), *([0] if is_path else [])]
+        connections = sum(self.connection[pair] for pair in zip(rights, lefts))
+        return connections + sum(word.cost for word in chain)
 
 
-def expected(sources, text):
-    """The rows of the lattice, what the best path costs, and what paths without a word's boundaries cost least."""
-    totals, through, paths = {}, {}, []
-    for chain, is_path in sources.chains(text):
-        if chain:
-            cost = sources.cost(chain, False)
-            totals[chain[-1]] = min(totals.get(chain[-1], cost), cost)
-        if is_path:
-            cost = sources.cost(chain, True)
-            paths.append((cost, {(word.place, word.end) for word in chain}))
-            for word in chain:
-                through[word] = min(through.get(word, cost), cost)
-    best = min(cost for cost, _ in paths)
-    rival = lambda place, end: min(
-        (cost - best for cost, bounds in paths if (place, end) not in bounds), default=None
+class Paths:
+    """All chains and paths of a text: the costs of each word, and of each path."""
+
+    def __init__(self, sources: Sources, text: str) -> None:
+        self.totals: Dict[Word, int] = {}
+        self.through: Dict[Word, int] = {}
+        # The cost of each path, and the place and end of each of its words.
+        self.paths: List[Tuple[int, Set[Tuple[int, int]]]] = []
+        for chain, is_path in sources.chains(text):
+            if chain:
+                cost = sources.cost(chain, False)
+                self.totals[chain[-1]] = min(self.totals.get(chain[-1], cost), cost)
+            if is_path:
+                self.add_path(chain, sources.cost(chain, True))
+
+    def add_path(self, chain: Chain, cost: int) -> None:
+        self.paths.append((cost, {(word.place, word.end) for word in chain}))
+        for word in chain:
+            self.through[word] = min(self.through.get(word, cost), cost)
+
+    def lattice(self) -> Dict[Word, Tuple[int, Optional[int]]]:
+        """Returns the words of the lattice, each with its total and its `through`."""
+        return {word: (total, self.through.get(word)) for word, total in self.totals.items()}
+
+    def best(self) -> int:
+        return min(cost for cost, _ in self.paths)
+
+    def rival(self, word: Word) -> Optional[int]:
+        """Returns how much more the best path without the boundaries of a word costs, or None."""
+        boundaries = word.place, word.end
+        costs = [cost for cost, words in self.paths if boundaries not in words]
+        return min(costs) - self.best() if costs else None
+
+
+def tables_of(folder: Path, lines: Sequence[str], *options: str) -> List[List[Row]]:
+    """Returns the tables that jseg prints for the lines, without their headings."""
+    text = "".join(f"{line}\n" for line in lines).encode()
+    tables = (
+        run([JSEG, "--sources", folder, *options], text).decode().removesuffix("\n\n").split("\n\n")
     )
-    return {word: (total, through.get(word)) for word, total in totals.items()}, best, rival
+    return [[row.split("\t") for row in table.split("\n")[1:]] for table in tables]
 
 
-def printed(folder, lines, *options):
-    words = [JSEG, "--sources", folder, *options]
-    out = subprocess.run(
-        words,
-        input="".join(f"{line}\n" for line in lines).encode(),
-        stdout=subprocess.PIPE,
-        check=True,
-    ).stdout.decode()
-    return [
-        [row.split("\t") for row in table.split("\n")[1:]]
-        for table in out.removesuffix("\n\n").split("\n\n")
-    ]
-
-
-def number(cell):
-    return int(cell) if cell else None
-
-
-def node_of(text, row):
-    """A row of a lattice as a word, with its total and its through."""
+def node_of(text: str, row: Row) -> Tuple[Word, Tuple[int, Optional[int]]]:
+    """Returns a row of a lattice as a word, with its total and its `through`."""
     at = {len(text[:count].encode()): count for count in range(len(text) + 1)}
-    place, start, end, _, left, right, cost, known, _, _, total, cost_through, _, _, feature = row
-    word = Word(
-        at[int(place)],
-        at[int(start)],
-        at[int(end)],
-        int(left),
-        int(right),
-        int(cost),
-        known,
-        feature,
-    )
-    return word, (int(total), number(cost_through))
+    place, start, end, _, left, right, cost, known, _, _, total, through, _, _, feature = row
+    bounds = at[int(place)], at[int(start)], at[int(end)]
+    word = Word(*bounds, int(left), int(right), int(cost), known, feature)
+    return word, (int(total), int(through) if through else None)
 
 
-def faults_of(sources, text, nodes, whys):
-    wanted, best, rival = expected(sources, text)
-    found = dict(node_of(text, row) for row in nodes)
-    if found != wanted or len(nodes) != len(found):
-        yield f"the lattice is {found}, and should be {wanted}"
-    if int(whys[-1][5]) != best:
-        yield f"the best path costs {whys[-1][5]}, and should cost {best}"
-    starred = [node_of(text, row)[0] for row in nodes if row[13] == "*"]
-    lost, current = [], None
-    for row in whys[:-1]:
+def losses_of(rows: Sequence[Row]) -> List[Set[int]]:
+    """Returns the losses in the rows of each rival, for each word of the best path."""
+    losses: List[Set[int]] = []
+    for row in rows:
         if row[0] == "best":
-            current = []
-            lost.append(current)
+            losses.append(set())
         else:
-            current.append(int(row[6]))
-    if len(lost) != len(starred):
-        yield f"the best path has {len(lost)} words, and the lattice marks {len(starred)}"
-    for word, by in zip(starred, lost):
-        least = rival(word.place, word.end)
-        if set(by) != ({least} if least is not None else set()):
-            yield f"{word} lost by {by}, and should by {least}"
+            losses[-1].add(int(row[6]))
+    return losses
 
 
-def check(name, folder):
+def failures_of(
+    sources: Sources, text: str, nodes: Sequence[Row], why: Sequence[Row]
+) -> Iterator[str]:
+    """Yields what is wrong with the tables of one text."""
+    paths = Paths(sources, text)
+    found = dict(node_of(text, row) for row in nodes)
+    if found != paths.lattice() or len(nodes) != len(found):
+        yield f"the lattice is {found}, expected {paths.lattice()}"
+    if int(why[-1][5]) != paths.best():
+        yield f"the best path costs {why[-1][5]}, expected {paths.best()}"
+    best = [node_of(text, row)[0] for row in nodes if row[13] == "*"]
+    losses = losses_of(why[:-1])
+    if len(losses) != len(best):
+        yield f"the best path has {len(losses)} words, and the lattice marks {len(best)}"
+    for word, loss in zip(best, losses):
+        rival = paths.rival(word)
+        if loss != ({rival} if rival is not None else set()):
+            yield f"{word} lost by {loss}, expected {rival}"
+
+
+def check(name: str, folder: Path) -> int:
+    """Checks all texts over one dictionary, and returns the number of failures."""
     sources = Sources(folder)
     lines = [
         "".join(chars)
         for count in range(1, 6)
-        for chars in itertools.product(TEXTS[name], repeat=count)
+        for chars in itertools.product(CHARACTERS[name], repeat=count)
     ]
-    faults = 0
-    for text, nodes, whys in zip(
-        lines,
-        printed(folder, lines, "--lattice", "tsv"),
-        printed(folder, lines, "--why"),
-        strict=True,
-    ):
-        for fault in faults_of(sources, text, [row for row in nodes if len(row) > 1], whys):
-            faults += 1
-            print(f"all-paths: {name}: {text!r}: {fault}", file=sys.stderr)
-    print(f"all-paths: {name}: {len(lines)} texts, {faults} faults")
-    return faults
+    lattices = tables_of(folder, lines, "--lattice", "tsv")
+    explanations = tables_of(folder, lines, "--why")
+    if not len(lines) == len(lattices) == len(explanations):
+        sys.exit(f"all_paths: {len(lines)} lines have {len(lattices)} tables")
+    failures = 0
+    for text, nodes, why in zip(lines, lattices, explanations):
+        for failure in failures_of(sources, text, [row for row in nodes if len(row) > 1], why):
+            failures += 1
+            print(f"all_paths: {name}: {text!r}: {failure}", file=sys.stderr)
+    print(f"all_paths: {name}: {len(lines)} cases, {failures} failures")
+    return failures
 
 
-def main():
+def main() -> int:
     if not JSEG.exists():
-        print(f"all-paths: {JSEG} is not there: nothing was checked", file=sys.stderr)
-        return 77
+        end_left_out(f"{JSEG} is missing")
     with tempfile.TemporaryDirectory() as folder:
         for file, text in TIES.items():
             (Path(folder) / file).write_text(text)
         return 1 if check("the sample", SAMPLE) + check("ties", Path(folder)) else 0
 
 
-sys.exit(main())
+if __name__ == "__main__":
+    sys.exit(main())

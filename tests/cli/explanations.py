@@ -1,14 +1,23 @@
 #!/usr/bin/env python3
-"""Checks what `jseg --why` prints over IPADIC, by its lattices, its words and its connection table.
+"""Checks what `jseg --why` prints over IPADIC, by its lattices, its words and matrix.def.
 
-The lines are made up of IPADIC's surfaces. For each line the words of the rows `best` are those that jseg cuts. A word's rival lost by the least that a
-word of the lattice lost which takes its place, and there is none where no such word has a path. The rows of a rival are words of the lattice that are
-not on the best path, one of which takes the word's place; they stand one behind the other, and without a row `...` they part from the best path and
-meet it again. In all rows each connection is that of `matrix.def`, each total is the one before it, the connection and the word cost, and the last
-one of a rival comes with the rest of its path to what the whole path costs. The status is 1 where a line is otherwise.
+The lines are made up of surfaces of IPADIC. For each line:
 
-Wanted: crates/dictc/out/dictc and crates/jseg/out/jseg, which `rt run` in their folders leaves, and IPADIC's sources (Debian: mecab-ipadic). Where
-one is not there the status is 77, and nothing was checked.
+- The words of the rows `best` are the words that jseg prints.
+- The rival of a word lost by the least that any word in its place lost. A word has no rival if no
+  path has such a word.
+- The rows of a rival are consecutive nodes of the lattice that are not on the best path. One of
+  them takes the place of the word. Unless a row `...` stands for further nodes, they start and end
+  where words of the best path do.
+- Each connection cost is the one of matrix.def. Each total is the total before it, the connection
+  cost and the word cost. With the rest of its path, the last total of a rival is the cost of the
+  best path and what the rival lost.
+
+The status is 1 if a line is otherwise.
+
+Needs crates/dictc/out/dictc and crates/jseg/out/jseg, which `rt run` in their directories builds,
+and the sources of IPADIC (Debian: mecab-ipadic). If one is missing the status is 77, and nothing
+was checked.
 """
 import argparse
 import itertools
@@ -18,231 +27,174 @@ import subprocess
 import sys
 import tempfile
 from pathlib import Path
-from typing import NamedTuple
+from typing import Callable, Dict, Iterator, List, NamedTuple, Optional, Sequence, Union
 
-TOP = Path(__file__).resolve().parents[2]
-DICTC, JSEG = (TOP / "crates" / name / "out" / name for name in ("dictc", "jseg"))
+sys.dont_write_bytecode = True
+sys.path.insert(0, str(Path(__file__).resolve().parents[1]))
+from cli.tables import Gap, Node, Row, read_node, read_row  # noqa: E402
+from support.running import IMPORTER, end_left_out, program, run  # noqa: E402
+
+DICTC, JSEG = program("dictc"), program("jseg")
 SOURCES = Path("/usr/share/mecab/dic/ipadic")
-ESCAPES = {"t": "\t", "n": "\n", "r": "\r", "\\": "\\"}
 OTHERS = [" ", "\t", "\\", "EOS", "ABC", "123", "…", "𠮷", "%"]
 
-
-class Node(NamedTuple):
-    """A word of a lattice."""
-
-    place: int
-    start: int
-    end: int
-    left: int
-    right: int
-    cost: int
-    total: int
-    through: int
-    is_best: bool
-    feature: str
-
-    def takes_place_of(self, other):
-        return self.place <= other.place < self.end and (self.place, self.end) != (
-            other.place,
-            other.end,
-        )
+# Returns the connection cost by right id and left id.
+ConnectionCost = Callable[[int, int], int]
 
 
-class Row(NamedTuple):
-    """A row of --why. Only one in the place of words that are left out has no costs."""
-
-    path: str
-    start: int
-    surface: str
-    connection: int
-    cost: int
-    total: int
-    lost: int
-    feature: str
-
-    def is_of(self, node):
-        return (self.start, self.start + len(self.surface.encode()), self.cost, self.feature) == (
-            node.start,
-            node.end,
-            node.cost,
-            node.feature,
-        )
-
-
-def unescaped(cell):
-    out, rest = [], iter(cell)
-    for char in rest:
-        out.append(ESCAPES[next(rest)] if char == "\\" else char)
-    return "".join(out)
-
-
-def number(cell):
-    return int(cell) if cell else None
-
-
-def node_of(row):
-    place, start, end, _, left, right, cost, _, _, _, total, through, _, best, feature = row.split(
-        "\t"
-    )
-    return Node(
-        *map(int, (place, start, end, left, right, cost, total)),
-        number(through),
-        best == "*",
-        feature,
-    )
-
-
-def row_of(row):
-    path, start, surface, *costs, feature = row.split("\t")
-    return Row(path, number(start), unescaped(surface), *map(number, costs), feature)
-
-
-def printed(image, text, *options):
-    words = [JSEG, "-d", image, "--skip-digest", *options]
-    return subprocess.run(
-        words, input=text.encode(), stdout=subprocess.PIPE, check=True
-    ).stdout.decode()
-
-
-def tables(text, heading, read):
-    """The rows of each line."""
-    for table in text.removesuffix("\n\n").split("\n\n"):
-        first, *rows = table.split("\n")
-        if not first.startswith(heading):
-            sys.exit(f"whys: a table begins with {first!r}")
-        yield [read(row) for row in rows]
-
-
-def connections():
-    """The connection costs by right id and left id."""
+def read_connections() -> ConnectionCost:
     with open(SOURCES / "matrix.def") as lines:
         _, lefts = map(int, next(lines).split())
         costs = [int(line.split()[2]) for line in lines]
     return lambda right, left: costs[right * lefts + left]
 
 
-def groups(rows):
-    """Each row of the best path, with those of its rival."""
-    found = []
-    for row in rows:
-        if row.path == "best":
-            found.append((row, []))
+def output_of(image: Path, text: str, *options: str) -> str:
+    return run([JSEG, "-d", image, "--skip-digest", *options], text.encode()).decode()
+
+
+def tables_of(text: str, heading: str) -> Iterator[List[str]]:
+    """Yields the rows of each table, without its heading, which has to start with `heading`."""
+    for table in text.removesuffix("\n\n").split("\n\n"):
+        first, *rows = table.split("\n")
+        if not first.startswith(heading):
+            sys.exit(f"explanations: a table starts with {first!r}")
+        yield rows
+
+
+class Explained(NamedTuple):
+    """A row of the best path, with the rows of its rival."""
+
+    row: Row
+    rival: List[Union[Row, Gap]]
+
+
+def read_explanation(rows: Sequence[str]) -> List[Explained]:
+    found: List[Explained] = []
+    for row in map(read_row, rows):
+        if row.path == "best" and isinstance(row, Row):
+            found.append(Explained(row, []))
         else:
-            found[-1][1].append(row)
+            found[-1].rival.append(row)
     return found
 
 
 class Walk:
-    """What is known behind the rows so far: where the last word ends, its right id, and the total."""
+    """The state after the rows so far: the end of the last word, its right id, and the total."""
 
-    def __init__(self, end=0, right=0, total=0):
+    def __init__(self, end: int = 0, right: int = 0, total: int = 0) -> None:
         self.end, self.right, self.total = end, right, total
 
-    def go_on(self, row, node, cost_of):
-        """What a row has otherwise that stands behind the last one."""
+    def check_next(self, row: Row, node: Node, cost_of: ConnectionCost) -> Iterator[str]:
+        """Yields what is wrong with the next row, and takes it."""
         if node.place != self.end:
-            yield f"{row} does not begin where the word before it ends"
-        yield from self.costs(row, node.left, cost_of)
+            yield f"{row} does not start where the word before it ends"
+        yield from self.check_costs(row, node.left, cost_of)
         self.end, self.right, self.total = node.end, node.right, row.total
 
-    def costs(self, row, left, cost_of):
+    def check_costs(self, row: Row, left: int, cost_of: ConnectionCost) -> Iterator[str]:
         if row.connection != cost_of(self.right, left):
-            yield f"{row} has not the connection {cost_of(self.right, left)}"
+            yield f"the connection of {row} is {cost_of(self.right, left)}"
         if row.total != self.total + row.connection + row.cost:
-            yield f"{row} has another total than {self.total} and its costs"
+            yield f"the total of {row} is not {self.total} and its costs"
 
 
-def faults_of_best(line, rows, best, cut, cost_of):
-    """What is otherwise of the best path."""
-    *words, eos = rows
-    if "".join(f"{row.surface} " for row in words) != cut:
-        yield f"the best path is {words}, and what is cut {cut!r}"
-    if len(words) != len(best) or not all(row.is_of(node) for row, node in zip(words, best)):
-        yield f"the best path is {words}, and of the lattice {best}"
-        return
-    walk = Walk()
-    for row, node in zip(words, best):
-        yield from walk.go_on(row, node, cost_of)
-    yield from walk.costs(eos, 0, cost_of)
-    if (eos.start, eos.surface, eos.cost, eos.lost, eos.feature) != (
-        len(line.encode()),
-        "EOS",
-        0,
-        None,
-        "",
-    ):
-        yield f"the last row is {eos}"
+class Line:
+    """A line of text, with what jseg prints of it."""
 
+    def __init__(
+        self, text: str, explanation: List[Explained], nodes: List[Node], wakati: str
+    ) -> None:
+        self.text, self.nodes, self.wakati = text, nodes, wakati
+        *self.words, self.eos = explanation
+        self.best = [node for node in nodes if node.is_best]
+        self.total = self.eos.row.total
 
-def beginnings(best):
-    """By the place where a rival may part from the best path, what is known there."""
-    found = {0: Walk()}
-    for node in best:
-        found[node.end] = Walk(node.end, node.right, node.total)
-    return found
+    def failures(self, cost_of: ConnectionCost) -> Iterator[str]:
+        yield from self.best_failures(cost_of)
+        if self.eos.rival:
+            yield f"EOS has a rival: {self.eos.rival}"
+        for explained, word in zip(self.words, self.best):
+            yield from self.rival_failures(explained.rival, word, cost_of)
 
+    def best_failures(self, cost_of: ConnectionCost) -> Iterator[str]:
+        """Yields what is wrong with the best path."""
+        rows = [explained.row for explained in self.words]
+        if "".join(f"{row.surface} " for row in rows) != self.wakati:
+            yield f"the best path is {rows}, and -O wakati prints {self.wakati!r}"
+        is_best = all(row.is_of(node) for row, node in zip(rows, self.best))
+        if len(rows) != len(self.best) or not is_best:
+            yield f"the best path is {rows}, and in the lattice it is {self.best}"
+            return
+        walk = Walk()
+        for row, node in zip(rows, self.best):
+            yield from walk.check_next(row, node, cost_of)
+        eos = self.eos.row
+        yield from walk.check_costs(eos, 0, cost_of)
+        expected = len(self.text.encode()), "EOS", 0, None, ""
+        if (eos.start, eos.surface, eos.cost, eos.lost, eos.feature) != expected:
+            yield f"the last row is {eos}"
 
-def faults_of_rival(rows, word, nodes, best, total, cost_of):
-    """What is otherwise of the rival of a word of the best path."""
-    lost = min(
-        (
-            node.through - total
-            for node in nodes
+    def least_loss(self, word: Node) -> Optional[int]:
+        """Returns the least that a node in the place of a word lost, or None if there is none."""
+        costs = [
+            node.through
+            for node in self.nodes
             if node.through is not None and node.takes_place_of(word)
-        ),
-        default=None,
-    )
-    if {row.lost for row in rows} != ({lost} if lost is not None else set()):
-        yield f"{word} has {rows}, and the least that a rival lost by is {lost}"
-    words = [row for row in rows if row.cost is not None]
-    if not words:
-        return
-    chosen = [
-        next(
-            (
-                node
-                for node in nodes
-                if row.is_of(node) and node.through is not None and not node.is_best
-            ),
-            None,
-        )
-        for row in words
-    ]
-    if None in chosen or not any(node.takes_place_of(word) for node in chosen):
-        yield f"{rows} are no words of the lattice in the place of {word}"
-        return
-    walk = beginnings(best).get(chosen[0].place)
-    if rows[0] is not words[0]:
-        walk = None
-    elif walk is None:
-        yield f"{rows[0]} does not begin where a word of the best path ends"
-    for row, node in zip(words, chosen):
-        yield from walk.go_on(row, node, cost_of) if walk else ()
-        walk = walk or Walk(node.end, node.right, row.total)
-    last = words[-1].total + chosen[-1].through - chosen[-1].total
-    if last != total + lost:
-        yield f"{words[-1]} leads to {last}, and the rival costs {total + lost}"
-    if rows[-1] is words[-1] and chosen[-1].end not in {
-        0,
-        *(node.place for node in best),
-        best[-1].end,
-    }:
-        yield f"{words[-1]} does not end where a word of the best path begins"
+        ]
+        return min(costs) - self.total if costs else None
+
+    def node_of(self, row: Row) -> Optional[Node]:
+        """Returns the node of a rival's row, or None."""
+        for node in self.nodes:
+            if row.is_of(node) and node.through is not None and not node.is_best:
+                return node
+        return None
+
+    def walks(self) -> Dict[int, Walk]:
+        """Returns the state at each position where a rival may leave the best path."""
+        return {0: Walk()} | {
+            node.end: Walk(node.end, node.right, node.total) for node in self.best
+        }
+
+    def rival_failures(
+        self, rows: Sequence[Union[Row, Gap]], word: Node, cost_of: ConnectionCost
+    ) -> Iterator[str]:
+        """Yields what is wrong with the rival of a word of the best path."""
+        lost = self.least_loss(word)
+        if {row.lost for row in rows} != ({lost} if lost is not None else set()):
+            yield f"{word} has {rows}, and the least that a rival lost by is {lost}"
+        words = [row for row in rows if isinstance(row, Row)]
+        if not words or lost is None:
+            return
+        found = [self.node_of(row) for row in words]
+        nodes = [node for node in found if node is not None]
+        if len(nodes) < len(found) or not any(node.takes_place_of(word) for node in nodes):
+            yield f"{rows} are no nodes of the lattice in the place of {word}"
+            return
+        walk = self.walks().get(nodes[0].place)
+        if rows[0] is not words[0]:
+            walk = None
+        elif walk is None:
+            yield f"{rows[0]} does not start where a word of the best path ends"
+        for row, node in zip(words, nodes):
+            yield from walk.check_next(row, node, cost_of) if walk else ()
+            walk = walk or Walk(node.end, node.right, row.total)
+        yield from self.end_failures(words[-1], nodes[-1], lost, rows[-1] is words[-1])
+
+    def end_failures(self, row: Row, node: Node, lost: int, is_end: bool) -> Iterator[str]:
+        """Yields what is wrong with the last word of a rival, which ends it if `is_end`."""
+        assert node.through is not None
+        last = row.total + node.through - node.total
+        if last != self.total + lost:
+            yield f"{row} leads to {last}, and the rival costs {self.total + lost}"
+        ends = {0, *(one.place for one in self.best), self.best[-1].end}
+        if is_end and node.end not in ends:
+            yield f"{row} does not end where a word of the best path starts"
 
 
-def faults_of(line, rows, nodes, cut, cost_of):
-    best = [node for node in nodes if node.is_best]
-    found = groups(rows)
-    yield from faults_of_best(line, [row for row, _ in found], best, cut, cost_of)
-    if found[-1][1]:
-        yield f"EOS has a rival: {found[-1][1]}"
-    total = found[-1][0].total
-    for (_, rival), word in zip(found, best):
-        yield from faults_of_rival(rival, word, nodes, best, total, cost_of)
-
-
-def made_up(count):
-    """Lines of IPADIC's surfaces, and of what it has no word for."""
+def made_up(count: int) -> Iterator[str]:
+    """Yields lines of IPADIC's surfaces, and of what it has no word for."""
     surfaces = [
         line.split(",")[0]
         for path in sorted(SOURCES.glob("*.csv"))
@@ -255,45 +207,47 @@ def made_up(count):
         )
 
 
-def check(image, count):
-    lines = list(made_up(count))
-    text = "".join(f"{line}\n" for line in lines)
-    rows = tables(printed(image, text, "--why"), "path\t", row_of)
-    nodes = tables(printed(image, text, "--lattice", "tsv"), "place\t", node_of)
-    cut = printed(image, text, "-O", "wakati").splitlines()
-    cost_of = connections()
-    checked = faults = 0
-    for line, *found in zip(lines, rows, nodes, cut, strict=True):
+def read_lines(image: Path, count: int) -> Iterator[Line]:
+    texts = list(made_up(count))
+    text = "".join(f"{line}\n" for line in texts)
+    rows = list(tables_of(output_of(image, text, "--why"), "path\t"))
+    nodes = list(tables_of(output_of(image, text, "--lattice", "tsv"), "place\t"))
+    wakati = output_of(image, text, "-O", "wakati").splitlines()
+    if not len(texts) == len(rows) == len(nodes) == len(wakati):
+        sys.exit(f"explanations: {len(texts)} lines have {len(rows)} and {len(nodes)} tables")
+    for line, row, node, words in zip(texts, rows, nodes, wakati):
+        yield Line(line, read_explanation(row), list(map(read_node, node)), words)
+
+
+def check(image: Path, count: int) -> int:
+    """Checks `count` lines, and returns the exit status."""
+    cost_of = read_connections()
+    checked = failures = 0
+    for line in read_lines(image, count):
         checked += 1
-        for fault in faults_of(line, *found, cost_of):
-            faults += 1
-            print(f"whys: {line!r}: {fault}", file=sys.stderr)
-    print(f"whys: {checked} lines, {faults} faults")
-    return 1 if faults else 0
+        for failure in line.failures(cost_of):
+            failures += 1
+            print(f"explanations: {line.text!r}: {failure}", file=sys.stderr)
+    print(f"explanations: {checked} cases, {failures} failures")
+    return 1 if failures else 0
 
 
-def main():
-    options = argparse.ArgumentParser(
+def main() -> int:
+    parser = argparse.ArgumentParser(
         description=__doc__, formatter_class=argparse.RawDescriptionHelpFormatter
     )
-    options.add_argument(
-        "--lines", type=int, default=500, metavar="N", help="how many lines are checked (500)"
-    )
-    count = options.parse_args().lines
+    lines = "how many lines are checked (500)"
+    parser.add_argument("--lines", type=int, default=500, metavar="N", help=lines)
+    count: int = parser.parse_args().lines
     missing = [str(path) for path in (DICTC, JSEG, SOURCES / "matrix.def") if not path.exists()]
     if missing:
-        print(f"whys: {' and '.join(missing)} is not there: nothing was checked", file=sys.stderr)
-        return 77
+        end_left_out(f"{' and '.join(missing)} is missing")
     os.environ["PATH"] = f"{DICTC.parent}:{os.environ['PATH']}"
     with tempfile.TemporaryDirectory() as folder:
         image = Path(folder) / "ipadic.img"
-        subprocess.run(
-            [TOP / "importer/kumquatsieve-import", "ipadic", image],
-            check=True,
-            stdout=subprocess.DEVNULL,
-            stderr=subprocess.DEVNULL,
-        )
+        run([IMPORTER, "ipadic", image], stderr=subprocess.DEVNULL)
         return check(image, count)
 
 
-sys.exit(main())
+if __name__ == "__main__":
+    sys.exit(main())

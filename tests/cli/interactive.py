@@ -1,9 +1,14 @@
-"""A program that is asked and answers in turns, as by an editor that keeps it running: each line is answered before the next is written."""
+"""Runs jseg as an editor does that keeps it running: each line is printed before the next one is
+written."""
 import os
 import select
 import subprocess
+from contextlib import suppress
+from pathlib import Path
+from typing import IO, Iterator
 
 PLUM, PLUMS = "もも\t名詞,もも\nEOS\n", "すもも\t名詞,すもも\nEOS\n"
+# How long an output may take.
 SECONDS = 20
 
 # What is written, and what has to be printed before more is written.
@@ -16,28 +21,31 @@ TURNS = [
 ]
 
 
-def read_so_much(out, count):
-    """So many bytes of a pipe, or what came of them in time."""
+def read_exactly(pipe: IO[bytes], count: int) -> bytes:
+    """Reads `count` bytes of a pipe, or as many as come within SECONDS."""
     found = b""
-    while len(found) < count and select.select([out], [], [], SECONDS)[0]:
-        more = os.read(out.fileno(), count - len(found))
+    while len(found) < count and select.select([pipe], [], [], SECONDS)[0]:
+        more = os.read(pipe.fileno(), count - len(found))
         if not more:
             break
         found += more
     return found
 
 
-def faults_of_turns(program):
-    """What is not as it should be."""
+def interactive_failures(program: Path) -> Iterator[str]:
+    """Yields what is wrong with the outputs."""
+    command = f"{program.name} --sample"
     with subprocess.Popen(
         [program, "--sample"], stdin=subprocess.PIPE, stdout=subprocess.PIPE, bufsize=0
     ) as process:
-        for asked, answer in TURNS:
-            process.stdin.write(asked.encode())
-            found = read_so_much(process.stdout, len(answer.encode()))
-            if found != answer.encode():
-                yield f"{program.name} --sample, asked {asked!r}: answers {found!r} before more is asked, not {answer!r}"
+        assert process.stdin and process.stdout
+        for text, expected in TURNS:
+            with suppress(BrokenPipeError):
+                process.stdin.write(text.encode())
+            found = read_exactly(process.stdout, len(expected.encode()))
+            if found != expected.encode():
+                yield f"{command}: after {text!r} prints {found!r}, expected {expected!r}"
         process.stdin.close()
         rest = process.stdout.read()
         if rest or process.wait(SECONDS) != 0:
-            yield f"{program.name} --sample, asked in turns: prints {rest!r} at its end, status {process.returncode}"
+            yield f"{command}: prints {rest!r} at its end, status {process.returncode}"

@@ -1,18 +1,23 @@
 #!/usr/bin/env python3
-"""Cuts a corpus with one jseg and with GNU parallel over blocks of lines, compares the outputs byte for byte, and prints the speeds.
+"""Segments a corpus with one jseg and with GNU parallel over blocks of lines, and compares.
 
-    tests/cli/parallel.py [--image IMG] [--cut PROGRAM] [--mecab FOLDER] [--megabytes N] [--block N] [--rounds N] [TEXT..]
+    tests/cli/parallel.py [--image IMG] [--cut PROGRAM] [--mecab DIR] [--megabytes N] [--block N]
+                          [--rounds N] [TEXT..]
 
-The corpus is made of the texts, over and over until it has so many megabytes; a line that is not UTF-8 is left out. Without a text it is made of the
-Japanese manual pages (Debian: manpages-ja). Without an image it is cut with the sample. With an image and --cut it is also cut by a kumquatsieve-cut,
-on as many threads as there are jobs, and with --mecab by MeCab with the dictionary in that folder, which has to be made of the same sources. The
-status is 1 where an output differs.
+The outputs have to be the same, byte for byte; the status is 1 if one differs. The speeds are
+printed.
 
-All commands take turns, `--rounds` times. A row has the least seconds over the corpus and over no text. What is left of them is the search, beside
-which stands its part of what the search of one jseg takes.
+The corpus is made of the texts, repeated until it has N megabytes, without lines that are not
+UTF-8. The default texts are the Japanese manual pages (Debian: manpages-ja). The default dictionary
+is the sample. With --image and --cut it is also segmented by a kumquatsieve-cut, on as many threads
+as there are jobs. With --mecab it is also segmented by MeCab with the dictionary in DIR, which has
+to be compiled from the same sources.
 
-Needs: crates/jseg/out/jseg, which `rt run` in its folder leaves. Where it is not there the status is 2. And parallel (Debian: parallel):
-without it no job is compared, and the status is 77.
+The commands take turns, N times. A row has the least seconds over the corpus, and over no text. The
+difference is the search, beside which is its ratio to the search of one jseg.
+
+Needs crates/jseg/out/jseg, which `rt run` in its directory builds; if it is missing the status is
+2. And parallel (Debian: parallel); without it no job is compared, and the status is 77.
 """
 import argparse
 import gzip
@@ -23,141 +28,138 @@ import sys
 import tempfile
 import time
 from pathlib import Path
+from typing import Dict, Iterator, List, Sequence, Tuple
 
-TOP = Path(__file__).resolve().parents[2]
-JSEG = TOP / "crates" / "jseg" / "out" / "jseg"
+sys.dont_write_bytecode = True
+sys.path.insert(0, str(Path(__file__).resolve().parents[1]))
+from support.running import LEFT_OUT, SAMPLE, Words, program  # noqa: E402
+
+JSEG = program("jseg")
 MANUAL_PAGES = Path("/usr/share/man/ja")
 CORES = range(1, 5)
-LEFT_OUT = 77
+# Longer lines are an error of jseg, in bytes.
+LINE_MAX = 1 << 20
 
 
-def is_text(line):
+def is_text(line: bytes) -> bool:
     try:
         line.decode()
     except UnicodeDecodeError:
         return False
-    return True
+    return len(line) < LINE_MAX
 
 
-def corpus(texts, size):
-    """The lines of the texts, over and over. Without a text, those of the sample."""
+def corpus(texts: Sequence[Path], size: int) -> bytes:
+    """Returns the lines of the texts, repeated to about `size` bytes."""
     if texts:
         text = b"".join(path.read_bytes() for path in texts)
     elif MANUAL_PAGES.exists():
-        text = b"".join(
-            gzip.decompress(path.read_bytes())
-            for path in sorted(MANUAL_PAGES.glob("man*/*.gz"))
-            if path.is_file()
-        )
+        pages = sorted(path for path in MANUAL_PAGES.glob("man*/*.gz") if path.is_file())
+        text = b"".join(gzip.decompress(path.read_bytes()) for path in pages)
     else:
-        text = (TOP / "examples" / "sample" / "text.txt").read_bytes()
-    text = b"".join(
-        line for line in text.splitlines(keepends=True) if is_text(line) and len(line) < 1 << 20
-    )
+        text = (SAMPLE / "text.txt").read_bytes()
+    text = b"".join(line for line in text.splitlines(keepends=True) if is_text(line))
     text = text if text.endswith(b"\n") else text + b"\n"
     return text * max(1, round(size / len(text)))
 
 
-def timed(words, source, target):
+def seconds_of(command: Words, source: Path, target: Path) -> float:
     with open(source, "rb") as reading, open(target, "wb") as writing:
-        began = time.monotonic()
-        subprocess.run(words, stdin=reading, stdout=writing, check=True)
-        return time.monotonic() - began
+        start = time.monotonic()
+        subprocess.run(command, stdin=reading, stdout=writing, check=True)
+        return time.monotonic() - start
 
 
 class Times:
-    """The least seconds of a command over the corpus, and those over no text, which are its load."""
+    """The least seconds of a command over the corpus, and over no text, which loads only."""
 
-    def __init__(self):
+    def __init__(self) -> None:
         self.run = self.load = float("inf")
 
-    def add(self, words, source, target):
-        self.load = min(self.load, timed(words, os.devnull, target))
-        self.run = min(self.run, timed(words, source, target))
+    def add(self, command: Words, source: Path, target: Path) -> None:
+        self.load = min(self.load, seconds_of(command, Path(os.devnull), target))
+        self.run = min(self.run, seconds_of(command, source, target))
 
-    def search(self):
+    def search(self) -> float:
         return self.run - self.load
 
 
-def print_table(times, size):
-    """A row for each command, the first of which is one jseg."""
-    print(
-        "| how | seconds | of these without a text | search, beside one `jseg` | MB/s |\n|---|---|---|---|---|"
-    )
+def print_table(times: Dict[str, Times], size: float) -> None:
+    """Prints a row for each command, the first of which is one jseg. `size` is in megabytes."""
+    print("| how | seconds | of these without a text | search, beside one `jseg` | MB/s |")
+    print("|---|---|---|---|---|")
     one = next(iter(times.values())).search()
     for name, row in times.items():
-        part = f"{row.search() / one:.2f}" if one > 0 else "none"
-        print(f"| {name} | {row.run:.2f} | {row.load:.2f} | {part} | {size / row.run:.1f} |")
+        ratio = f"{row.search() / one:.2f}" if one > 0 else "none"
+        print(f"| {name} | {row.run:.2f} | {row.load:.2f} | {ratio} | {size / row.run:.1f} |")
 
 
-def commands(chosen):
-    """What is compared with one jseg: its name in the table, and the words of its command."""
-    words = [*(["-d", str(chosen.image)] if chosen.image else ["--sample"]), "-O", "wakati"]
+def commands(options: argparse.Namespace) -> Iterator[Tuple[str, List[str]]]:
+    """Yields each command after its name in the table. The first is one jseg."""
+    words = [*(["-d", str(options.image)] if options.image else ["--sample"]), "-O", "wakati"]
     yield "one `jseg`", [str(JSEG), *words]
-    if chosen.mecab:
-        yield "MeCab", [
-            "mecab",
-            "-r",
-            "/dev/null",
-            "-b",
-            "1100000",
-            "-d",
-            str(chosen.mecab),
-            "-O",
-            "wakati",
-        ]
-    if chosen.cut:
-        yield from (
-            (f"`kumquatsieve-cut -j {cores}`", [str(chosen.cut), "-j", str(cores), *words])
-            for cores in CORES
-        )
-    if shutil.which("parallel"):
-        jobs = ["parallel", "--will-cite", "--pipe", "-k", "--block", chosen.block]
-        yield from (
-            (f"`parallel --pipe -k -j {cores}`", [*jobs, "-j", str(cores), str(JSEG), *words])
-            for cores in CORES
-        )
+    if options.mecab:
+        mecab = ["mecab", "-r", "/dev/null", "-b", "1100000", "-d", str(options.mecab)]
+        yield "MeCab", [*mecab, "-O", "wakati"]
+    for cores in CORES if options.cut else ():
+        yield f"`kumquatsieve-cut -j {cores}`", [str(options.cut), "-j", str(cores), *words]
+    for cores in CORES if shutil.which("parallel") else ():
+        jobs = ["parallel", "--will-cite", "--pipe", "-k", "--block", options.block]
+        yield f"`parallel --pipe -k -j {cores}`", [*jobs, "-j", str(cores), str(JSEG), *words]
 
 
-def main():
-    options = argparse.ArgumentParser(
+def compare(options: argparse.Namespace, folder: Path) -> bool:
+    """Runs the commands in turns, and prints the table. Returns whether all outputs agree."""
+    source, one, other = (folder / name for name in ("corpus", "one", "other"))
+    source.write_bytes(corpus(options.texts, options.megabytes * 1_000_000))
+    times = {name: Times() for name, _ in commands(options)}
+    for name, command in [row for _ in range(options.rounds) for row in commands(options)]:
+        target = other if one.exists() else one
+        times[name].add(command, source, target)
+        if subprocess.run(["cmp", one, target]).returncode:
+            print(f"parallel: the output of {name} differs", file=sys.stderr)
+            return False
+    size = source.stat().st_size / 1e6
+    print_table(times, size)
+    how = f"{size:.0f} MB of text, blocks of {options.block}, {os.cpu_count()} cores"
+    print(f"{how}: the outputs of {len(times)} commands are the same, byte for byte")
+    return True
+
+
+def parse_options() -> argparse.Namespace:
+    parser = argparse.ArgumentParser(
         description=__doc__, formatter_class=argparse.RawDescriptionHelpFormatter
     )
-    options.add_argument("--image", type=Path)
-    options.add_argument("--cut", type=Path, metavar="PROGRAM")
-    options.add_argument("--mecab", type=Path, metavar="FOLDER")
-    options.add_argument("--rounds", type=int, default=1, metavar="N")
-    options.add_argument("--megabytes", type=int, default=40, metavar="N")
-    options.add_argument("--block", default="2M", metavar="N")
-    options.add_argument("texts", nargs="*", type=Path)
-    chosen = options.parse_args()
+    parser.add_argument("--image", type=Path)
+    parser.add_argument("--cut", type=Path, metavar="PROGRAM")
+    parser.add_argument("--mecab", type=Path, metavar="DIR")
+    parser.add_argument("--rounds", type=int, default=1, metavar="N")
+    parser.add_argument("--megabytes", type=int, default=40, metavar="N")
+    parser.add_argument("--block", default="2M", metavar="N")
+    parser.add_argument("texts", nargs="*", type=Path)
+    options = parser.parse_args()
+    if options.cut and not options.image:
+        parser.error("--cut needs --image")
+    return options
+
+
+def main() -> int:
+    options = parse_options()
+    has_parallel = shutil.which("parallel") is not None
     if not JSEG.exists():
         print(f"parallel: {JSEG} is not built: nothing was compared", file=sys.stderr)
         return 2
-    if not chosen.cut and not shutil.which("parallel"):
-        print("parallel: GNU parallel is not there: nothing was compared", file=sys.stderr)
+    if not options.cut and not has_parallel:
+        print("parallel: GNU parallel is missing: nothing was compared", file=sys.stderr)
         return LEFT_OUT
-    if chosen.cut and not chosen.image:
-        options.error("--cut wants --image")
     with tempfile.TemporaryDirectory() as folder:
-        source, one, many = (Path(folder) / name for name in ("corpus", "one", "many"))
-        source.write_bytes(corpus(chosen.texts, chosen.megabytes * 1_000_000))
-        times = {name: Times() for name, _ in commands(chosen)}
-        for name, command in [row for _ in range(chosen.rounds) for row in commands(chosen)]:
-            target = many if one.exists() else one
-            times[name].add(command, source, target)
-            if subprocess.run(["cmp", one, target]).returncode:
-                print(f"parallel: the output of {name} differs", file=sys.stderr)
-                return 1
-        size = source.stat().st_size / 1e6
-        print_table(times, size)
-        print(
-            f"{size:.0f} MB of text, blocks of {chosen.block}, {os.cpu_count()} cores: each output is that of one jseg, byte for byte"
-        )
-    if not shutil.which("parallel"):
-        print("parallel: GNU parallel is not there: no job was compared", file=sys.stderr)
+        if not compare(options, Path(folder)):
+            return 1
+    if not has_parallel:
+        print("parallel: GNU parallel is missing: no job was compared", file=sys.stderr)
         return LEFT_OUT
     return 0
 
 
-sys.exit(main())
+if __name__ == "__main__":
+    sys.exit(main())

@@ -25,7 +25,7 @@ from typing import Iterator, List, Set, Tuple
 sys.dont_write_bytecode = True
 TESTS = Path(__file__).resolve().parents[1]
 sys.path[:0] = [str(TESTS), str(TESTS.parent / "importer")]
-from cli.completion.checks import faults as completion_differences  # noqa: E402
+from cli.completion.checks import failures as completion_differences  # noqa: E402
 from support.running import LEFT_OUT, TOP, leave_out, program  # noqa: E402
 
 PAGES = sorted((TOP / "man").glob("*.[15]"))

@@ -1,34 +1,38 @@
-"""The rows of tests/cli/run.py, by subject."""
+"""The test cases of tests/cli/run.py, by subject."""
 from . import (
-    messages,
+    about,
     command_lines,
-    large_matrices,
     files,
-    image_dirs,
+    hints,
     ids,
+    image_dirs,
     images,
+    large_matrices,
     lattices,
+    mecab_options,
+    progress,
     sources,
     streams,
     texts,
+    trust_records,
     why,
 )
 
-ROWS = [
-    row
-    for topic in (
-        texts,
-        large_matrices,
-        lattices,
-        why,
-        command_lines,
-        messages,
-        sources,
-        images,
-        image_dirs,
-        ids,
-        files,
-        streams,
-    )
-    for row in topic.ROWS
+CASES = [
+    *texts.CASES,
+    *large_matrices.CASES,
+    *lattices.CASES,
+    *why.CASES,
+    *command_lines.CASES,
+    *mecab_options.CASES,
+    *about.CASES,
+    *hints.CASES,
+    *progress.CASES,
+    *sources.CASES,
+    *images.CASES,
+    *image_dirs.CASES,
+    *trust_records.CASES,
+    *ids.CASES,
+    *files.CASES,
+    *streams.CASES,
 ]

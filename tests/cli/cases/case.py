@@ -1,133 +1,169 @@
-"""A run of a program: what it finds, what it is asked, and what it must do."""
+"""A test case of the programs: what a run finds, its command, and what it must do."""
 import os
 import re
 from pathlib import Path
-from typing import NamedTuple
+from typing import Callable, Mapping, NamedTuple, Sequence, Union
 
-SAMPLE = Path(__file__).resolve().parents[3] / "examples" / "sample"
+from support.running import SAMPLE
+
 MATRIX, CHARS, UNK, LEXICON = (
     (SAMPLE / name).read_bytes() for name in ("matrix.def", "char.def", "unk.def", "lexicon.csv")
 )
 
-# What compiles the sources of the folder a, and a user dictionary, to new.img.
+# The commands that compile the sources in the directory a, and a user dictionary, to new.img.
 DEFINITIONS = "--matrix a/matrix.def --char a/char.def --unk a/unk.def"
 SYSTEM = f"dictc system {DEFINITIONS} --out new.img"
 USER = "dictc user --dic sys.img --out new.img"
 
-# What erases a terminal's line from the cursor to its end.
+# Erases a terminal from the cursor to the end of the line.
 ERASED = "\x1b[K"
 
-# A file whose bytes no row gives.
-ANY = object()
+
+class Anything:
+    """A file whose bytes a case does not give."""
+
+
+ANY = Anything()
 
 
 class RecordOf(NamedTuple):
-    """The record of the tests of an image of the run, as kumquatsieve-import writes it, with one text
-    in the place of another."""
+    """The record of the tests of an image, as kumquatsieve-import writes it, with `old` replaced by
+    `new`."""
 
     image: str
     old: str = ""
     new: str = ""
 
-    def text(self, folder):
-        of = (folder / self.image).stat()
-        seconds = 1_000_000_000
+    def text(self, folder: Path) -> str:
+        status = (folder / self.image).stat()
+        second = 1_000_000_000
         lines = (
             "kumquatsieve-tested 1",
-            f"device {os.major(of.st_dev)}:{os.minor(of.st_dev)}",
-            f"inode {of.st_ino}",
-            f"size {of.st_size}",
-            f"mtime {of.st_mtime_ns // seconds}.{of.st_mtime_ns % seconds:09}",
-            f"ctime {of.st_ctime_ns // seconds}.{of.st_ctime_ns % seconds:09}",
+            f"device {os.major(status.st_dev)}:{os.minor(status.st_dev)}",
+            f"inode {status.st_ino}",
+            f"size {status.st_size}",
+            f"mtime {status.st_mtime_ns // second}.{status.st_mtime_ns % second:09}",
+            f"ctime {status.st_ctime_ns // second}.{status.st_ctime_ns % second:09}",
             f"sha256 {'0' * 64}",
         )
         return "".join(f"{line}\n" for line in lines).replace(self.old, self.new, 1)
 
 
 class Has(NamedTuple):
-    """A text that begins so, has these words, and lacks others."""
+    """Matches a text that starts with `start`, contains `words` and contains none of `lacks`."""
 
-    begin: str
-    words: tuple = ()
-    lacks: tuple = ()
+    start: str
+    words: Sequence[str] = ()
+    lacks: Sequence[str] = ()
 
-    def fits(self, text):
+    def fits(self, text: str) -> bool:
         return (
-            text.startswith(self.begin)
+            text.startswith(self.start)
             and all(word in text for word in self.words)
             and not any(word in text for word in self.lacks)
         )
 
-    def changed(self, change):
-        """The same with another form of each text."""
-        return type(self)(
-            change(self.begin), tuple(map(change, self.words)), tuple(map(change, self.lacks))
-        )
+    def changed(self, change: Callable[[str], str]) -> "Has":
+        """Returns the matcher with each of its texts changed."""
+        words, lacks = tuple(map(change, self.words)), tuple(map(change, self.lacks))
+        return type(self)(change(self.start), words, lacks)
 
 
 class Exactly(Has):
-    """A text that is this one, of any number of lines."""
+    """Matches the text `start` alone, of any number of lines."""
 
-    def fits(self, text):
-        return text == self.begin
+    def fits(self, text: str) -> bool:
+        return text == self.start
 
 
 class Erased(Has):
-    """A line of how far a reading is, which is written, erased and followed by the words. On a slow host it is written more than once, and lines with
-    other numbers may come first: the text is what is left of that."""
+    """Matches the progress line `start`, which is printed, erased and followed by the words.
 
-    def fits(self, text):
-        lines = text.split("\r")
-        told, last = lines[1:-1], lines[-1]
-        of_this = [line for line in told if without_numbers(line) == without_numbers(self.begin)]
-        return (
-            lines[0] == ""
-            and told == of_this
-            and told[-1:] == [self.begin]
-            and last == ERASED + "".join(self.words)
+    On a slow host the line is printed more than once, and lines with other numbers may come first.
+    """
+
+    def fits(self, text: str) -> bool:
+        first, *lines = text.split("\r")
+        if len(lines) < 2 or first or lines[-1] != ERASED + "".join(self.words):
+            return False
+        expected = without_numbers(self.start)
+        return lines[-2] == self.start and all(
+            without_numbers(line) == expected for line in lines[:-1]
         )
 
 
-def without_numbers(line):
+def without_numbers(line: str) -> str:
     return re.sub("[0-9]+", "0", line)
 
 
-class Under(NamedTuple):
-    """What a run meets beside its arguments, its files and its text."""
+# What a run finds at a path: bytes, or that many bytes of 0; None for nothing, a Path for a link,
+# {} for a directory.
+Found = Union[bytes, int, None, Path, Mapping[str, bytes], RecordOf]
+# What a run leaves at a path: bytes, the name of a file with the same bytes, ANY, or None.
+Left = Union[bytes, str, None, Anything]
+Files = Mapping[str, Found]
+Changes = Mapping[str, Left]
+# The text of standard output.
+Expected = Union[str, bytes, Has]
 
-    # directory, closed, failing after the text, reset: the first read alone fails, slow: its second half comes after two seconds, entries: a lexicon of
-    # one more than a dictionary may have, or feature: a lexicon whose feature is too long
+
+class Conditions(NamedTuple):
+    """What a run meets besides its arguments, its files and its text."""
+
+    # text; directory; closed; failing: a read fails after the text; reset: the first read alone
+    # fails; slow: the second half of the text comes after two seconds; entries: a lexicon of one
+    # entry more than a dictionary may have; feature: a lexicon with a feature that is too long.
     stdin: str = "text"
-    stdout: str = "kept"  # full, closed, or unread: a pipe without a reader
-    stderr: str = "kept"  # full, or terminal: what is written there is kept too
-    most: int = 0  # how many bytes a file may have: a longer one fails. 0: any number
-    killed: bool = False  # a longer one kills the run
-    memory: int = 0  # how many bytes of memory it may take. 0: any number
-    fails: str = ""  # the call of the C library that fails: rename, fsync, write, interrupted write (the first one alone), or fchmod; or slow read: the second read of files takes longer than two seconds
-    repeats: bool = False  # its large blocks of memory repeat, so that they take few bytes
-    seconds: int = 60  # how long it may take
-    taken: str = ""  # a file that is there; {pid} in its name is the number of the process
-    variables: dict = {}  # of its environment; HERE is the folder that it runs in
+    # kept; file; full; closed; unread: a pipe without a reader.
+    stdout: str = "kept"
+    # kept; full; terminal, whose text is kept too.
+    stderr: str = "kept"
+    # The size of the largest file in bytes, above which a write fails. 0: no limit.
+    max_file: int = 0
+    # Whether a larger file kills the run.
+    killed: bool = False
+    # The address space that it may allocate, in bytes. 0: no limit.
+    memory: int = 0
+    # The call of the C library that fails: rename, fsync, write, interrupted write (the first one
+    # alone) or fchmod; or slow read: the second read of a file takes more than two seconds.
+    fails: str = ""
+    # Whether its large blocks of memory repeat, so that they take few bytes.
+    repeats: bool = False
+    # The seconds after which it has failed.
+    seconds: int = 60
+    # A file that exists; {pid} in its name is the number of the process.
+    existing: str = ""
+    # Environment variables; HERE is the directory that it runs in.
+    variables: Mapping[str, str] = {}
 
 
-class Run(NamedTuple):
-    """A run in a new folder, in which the folder a has the sample's sources, sys.img is their image, user.img and second.img are images of
-    user dictionaries for it, and user.csv is the lexicon of the first.
+class Case(NamedTuple):
+    """A run in a new directory.
 
-    The programs are installed to PREFIX, and to PREFIX/bare as bare-jseg, which has no images. There the images `both` and `made` were made at run
-    time, and `installed` came with the programs, beside a `both` that is damaged. In words and in texts that are printed HERE is the folder of the
-    run."""
+    The directory `a` in it has the sources of the sample, sys.img is their image, user.img and
+    second.img are images of user dictionaries for it, and user.csv is the lexicon of the first.
+
+    The programs are installed to PREFIX, and as bare-jseg to PREFIX/bare, which has no images. In
+    PREFIX, the images `both` and `made` were made at run time, and `installed` came with the
+    programs, beside a `both` that is damaged. In commands, and in texts that are printed, HERE is
+    the directory of the run.
+    """
 
     name: str
-    words: str  # the program and its arguments, as a shell takes them apart
-    text: str = ""  # on standard input
-    out: str = ""  # on standard output
-    err: str = ""  # on standard error: one line, after the program's name and `: `
+    # The program and its arguments, quoted for a shell.
+    command: str
+    # Standard input and standard output.
+    text: Union[str, bytes] = ""
+    out: Expected = ""
+    # Standard error: one line after the program's name and `: `, or a matcher of all of it.
+    err: Union[str, Has] = ""
     status: int = 0
-    files: dict = (
-        {}
-    )  # what else is there: bytes, or the number of bytes of 0, None for what isn't, a Path for a link, {} for a folder, a RecordOf
-    left: dict = {}  # what is changed: bytes, the name of a file that it is equal to, ANY, or None
-    modes: dict = {}  # who may read and write a file, before the run and after it
-    then: str = ""  # a second command: it gets the text, and its output follows
-    under: Under = Under()
+    # What the directory has besides, by paths.
+    files: Files = {}
+    # What the run changes, by paths.
+    changes: Changes = {}
+    # The permissions of files, which are the same after the run.
+    modes: Mapping[str, int] = {}
+    # A second command. It gets the text, and its output follows.
+    second: str = ""
+    conditions: Conditions = Conditions()

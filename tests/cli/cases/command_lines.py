@@ -1,7 +1,9 @@
-"""Command lines: help, and those that are wrong."""
-from .case import DEFINITIONS, LEXICON, SYSTEM, USER, Has, Path, Run
+"""Command lines: help, and command lines that are rejected."""
+from pathlib import Path
 
-# (words, what stands in the text)
+from .case import DEFINITIONS, LEXICON, SYSTEM, USER, Case, Files, Has
+
+# (command, what the text contains)
 HELP = [
     ("dictc --help", ("system", "user")),
     ("dictc -h", ("system", "user")),
@@ -33,7 +35,7 @@ HELP = [
 ]
 
 WRONG = [
-    # (what, words)
+    # (what, command)
     ("no subcommand", "dictc"),
     ("another subcommand", "dictc delete"),
     ("an option of none", "dictc --out new.img a/lexicon.csv"),
@@ -75,7 +77,7 @@ WRONG = [
     ("no image's name", "jseg -d"),
 ]
 
-# A control character of a word is told escaped. (words, how the text begins, as it is told)
+# Control characters of an argument are escaped. (command, how the message starts)
 CONTROLS = [
     ("jseg '--x\x1b[2J'", r"unexpected argument '--x\u{1b}[2J' found"),
     ("jseg '--a\nb' -d sys.img", r"unexpected argument '--a\nb' found"),
@@ -87,7 +89,7 @@ CONTROLS = [
     ("dictc system '--mat\nrix' a/matrix.def", r"unexpected argument '--mat\nrix' found"),
 ]
 
-# The name of a file that begins as an option. (words, the name)
+# The name of a file that starts as an option does. (command, the name)
 DASHES = [
     (f"{SYSTEM} -x.csv", "-x.csv"),
     (f"{SYSTEM} a/lexicon.csv -v.csv", "-v.csv"),
@@ -100,10 +102,10 @@ DASHES = [
     ("jseg --sources -a", "-a"),
 ]
 
-# An image that would take the place of a file that is read. Nothing is lost.
-SPARE = {"spare.csv": LEXICON, "link.img": Path("sys.img"), "link": Path("a")}
+# An image that would replace a file that is read. Nothing is lost.
+SPARE: Files = {"spare.csv": LEXICON, "link.img": Path("sys.img"), "link": Path("a")}
 INPUTS = [
-    # (words, the path that is printed)
+    # (command, the path that is printed)
     ("dictc user --dic sys.img --out sys.img user.csv", "sys.img"),
     ("dictc user --dic sys.img --out user.csv user.csv", "user.csv"),
     ("dictc user --dic sys.img --out spare.csv user.csv spare.csv", "spare.csv"),
@@ -122,46 +124,55 @@ INPUTS = [
 ]
 
 
-def as_file(words, name):
-    """The run that tells what to write for the name of a file."""
+def dash_case(command: str, name: str) -> Case:
+    """Returns a run that prints how to give the name of a file."""
     tip = f"tip: for the file '{name}' write './{name}'"
-    return Run(
-        f"{name} as a file", words, "も\n", err=Has(f"{words.split()[0]}: ", (tip,)), status=2
+    return Case(
+        f"{name} as a file", command, "も\n", err=Has(f"{command.split()[0]}: ", (tip,)), status=2
     )
 
 
-ROWS = [
-    *(Run(words, words, out=Has("", ("Usage: ", *texts))) for words, texts in HELP),
-    *(Run(what, words, "も\n", err=Has(f"{words.split()[0]}: "), status=2) for what, words in WRONG),
+CASES = [
+    *(Case(command, command, out=Has("", ("Usage: ", *texts))) for command, texts in HELP),
     *(
-        Run(
-            f"{told}, {words.split()[0]}",
-            words,
+        Case(what, command, "も\n", err=Has(f"{command.split()[0]}: "), status=2)
+        for what, command in WRONG
+    ),
+    *(
+        Case(
+            f"{message}, {command.split()[0]}",
+            command,
             "も\n",
-            err=Has(f"{words.split()[0]}: {told}"),
+            err=Has(f"{command.split()[0]}: {message}"),
             status=2,
         )
-        for words, told in CONTROLS
+        for command, message in CONTROLS
     ),
-    *(as_file(*row) for row in DASHES),
-    Run(
+    *(dash_case(*row) for row in DASHES),
+    Case(
         "the tip is right",
         f"{SYSTEM} ./-x.csv",
         out="3 entries, 0 skipped\n",
         files={"-x.csv": LEXICON},
-        left={"new.img": "sys.img"},
+        changes={"new.img": "sys.img"},
     ),
-    Run(
+    Case(
         "an argument that is not UTF-8",
         "jseg --sample -F \udcff",
         err="an argument is not UTF-8",
         status=2,
     ),
-    Run(
+    Case(
         "a path that is not UTF-8", f"{SYSTEM} \udcff.csv", err="an argument is not UTF-8", status=2
     ),
     *(
-        Run(words, words, err=f"--out names a file that is read: {told}", status=2, files=SPARE)
-        for words, told in INPUTS
+        Case(
+            command,
+            command,
+            err=f"--out names a file that is read: {message}",
+            status=2,
+            files=SPARE,
+        )
+        for command, message in INPUTS
     ),
 ]

@@ -1,12 +1,12 @@
-"""The codes of the programs' faults."""
+"""The error codes of the programs."""
 import re
-from pathlib import Path
 
-SOURCES = Path(__file__).resolve().parents[3] / "crates" / "mj_model" / "src"
+from support.running import TOP
 
+SOURCES = TOP / "crates" / "mj_model" / "src"
 
-# Those of the C library's calls, which no program has.
-CODES_OF_CALLS = (
+# The codes of the C library's calls, which no program reports.
+LIBRARY_CODES = (
     "K1 LineFeed",
     "K2 NothingCut",
     "K3 Shared",
@@ -18,11 +18,10 @@ CODES_OF_CALLS = (
 )
 
 
-def codes_of_programs():
-    """The code and name of each fault that the programs have."""
+def program_codes() -> set[str]:
+    """Returns the code and name of each error that the programs report."""
     found = {"F1 File", "F2 Output"}
     for path in SOURCES.glob("*.rt"):
-        found |= {
-            " ".join(pair) for pair in re.findall(r'\("([A-Z]\d)", "(\w+)"\)', path.read_text())
-        }
+        pairs = re.findall(r'\("([A-Z]\d)", "(\w+)"\)', path.read_text())
+        found |= {" ".join(pair) for pair in pairs}
     return found | {"Memory"}

@@ -1,5 +1,8 @@
-"""Files and directories: read, written whole or not at all, and those that can't be."""
-from .case import ANY, SYSTEM, USER, Path, Run, Under
+"""Files and directories that are read, and files that are written whole or not at all."""
+from pathlib import Path
+from typing import List, Tuple
+
+from .case import ANY, SYSTEM, USER, Case, Changes, Conditions, Files, Found
 
 MADE = {"new.img": "sys.img"}
 LINE = "3 entries, 0 skipped\n"
@@ -11,13 +14,13 @@ NO_LISTING = 0o311
 LONGEST = "n" * 255
 
 
-def to(path):
-    """Compiles the sample to a path."""
+def to(path: str) -> str:
+    """Returns the command that compiles the sample to a path."""
     return ALL.replace("new.img", path)
 
 
-# What can't be read. (what, words, the path that is printed, what stands there)
-READ = [
+# What can't be read. (what, command, the path that is printed, what is there)
+READ: List[Tuple[str, str, str, Found]] = [
     ("no matrix.def", ALL, "a/matrix.def", None),
     ("no char.def", ALL, "a/char.def", None),
     ("no unk.def", ALL, "a/unk.def", None),
@@ -38,8 +41,8 @@ READ = [
 ]
 NOT_UTF8 = [{"a/\udcff": b""}, {"a/\udcff.csv": b""}]
 
-# What a user may not read. (words, the path that is printed, its mode)
-REFUSED = [
+# What a user may not read. (command, the path that is printed, its mode)
+DENIED_PATHS = [
     (ALL, "a/matrix.def", DENIED),
     (ALL, "a/lexicon.csv", DENIED),
     ("jseg -d sys.img", "sys.img", DENIED),
@@ -49,9 +52,9 @@ REFUSED = [
     ("jseg --sources a", "a", NO_LISTING),
 ]
 
-# The image takes a place. (what, words, what stands there before, after)
-LINKED = {"link": Path("folder/new.img"), "folder": {}, "folder/new.img": b"old"}
-WRITTEN = [
+# Where the image is written. (what, command, what is there before, and after)
+LINKED: Files = {"link": Path("folder/new.img"), "folder": {}, "folder/new.img": b"old"}
+WRITTEN: List[Tuple[str, str, Files, Changes]] = [
     ("a new file", ALL, {}, MADE),
     ("in place of an old one", ALL, OLD, MADE),
     ("by a link", to("link"), LINKED, {"folder/new.img": "sys.img"}),
@@ -65,27 +68,27 @@ WRITTEN = [
     ("in place of a link to nothing", ALL, {"new.img": Path("none")}, MADE),
     ("a device", to("/dev/null"), {}, {}),
 ]
-NOT_WRITTEN = [
+NOT_WRITTEN: List[Tuple[str, Files]] = [
     # (the path, what else there is)
     ("none/new.img", {}),
     ("folder", {"folder": {}}),
     ("/dev/full", {}),
 ]
 
-# A file is written whole or not at all. The sample's image has more than 1,000 bytes.
+# Why a file is not written. The image of the sample has more than 1,000 bytes.
 SMALL = 1_000
 FAILING = [
-    # (what, under what)
-    ("too large a file", Under(most=SMALL)),
-    ("a full device", Under(fails="write")),
-    ("not synced", Under(fails="fsync")),
-    ("a refused rename", Under(fails="rename")),
-    ("an interrupted write", Under(fails="interrupted write")),
+    # (what, conditions)
+    ("too large a file", Conditions(max_file=SMALL)),
+    ("a full device", Conditions(fails="write")),
+    ("not synced", Conditions(fails="fsync")),
+    ("a rejected rename", Conditions(fails="rename")),
+    ("an interrupted write", Conditions(fails="interrupted write")),
 ]
 BESIDE = ".kumquatsieve.{pid}.0.new"
-LEFT = {BESIDE: b"of a killed run"}
+MADE_BESIDE: Changes = {"new.img": "sys.img", BESIDE: b"of a killed run"}
 
-# What has a control character is printed in one line. (path, as it is printed)
+# Control characters of a path are escaped. (path, as it is printed)
 CONTROLS = [
     ("a\nb", r"a\nb"),
     ("\r\t", r"\r\t"),
@@ -96,42 +99,47 @@ CONTROLS = [
 ]
 
 
-def shell(path):
+def quoted(path: str) -> str:
     return f"'{path}'"
 
 
-ROWS = [
+CASES = [
     *(
-        Run(what, words, "も\n", err=f"{told}: F1 File", status=3, files={told: there})
-        for what, words, told, there in READ
+        Case(what, command, "も\n", err=f"{told}: F1 File", status=3, files={told: there})
+        for what, command, told, there in READ
     ),
     *(
-        Run("a name that is not UTF-8", "jseg --sources a", err="a: F1 File", status=3, files=files)
+        Case(
+            "a name that is not UTF-8", "jseg --sources a", err="a: F1 File", status=3, files=files
+        )
         for files in NOT_UTF8
     ),
     *(
-        Run(
-            f"{told} is refused, {words}",
-            words,
+        Case(
+            f"{told} is refused, {command}",
+            command,
             err=f"{told}: F1 File",
             status=3,
             modes={told: mode},
         )
-        for words, told, mode in REFUSED
+        for command, told, mode in DENIED_PATHS
     ),
-    Run(
+    Case(
         "files before the directory",
         "jseg --sources a",
         err="a/unk.def: F1 File",
         status=3,
         modes={"a/unk.def": DENIED, "a": NO_LISTING},
     ),
-    *(Run(what, words, out=LINE, files=files, left=left) for what, words, files, left in WRITTEN),
     *(
-        Run(f"not written: {path}", to(path), err=f"{path}: F1 File", status=3, files=files)
+        Case(what, command, out=LINE, files=files, changes=left)
+        for what, command, files, left in WRITTEN
+    ),
+    *(
+        Case(f"not written: {path}", to(path), err=f"{path}: F1 File", status=3, files=files)
         for path, files in NOT_WRITTEN
     ),
-    Run(
+    Case(
         "a folder that is not written",
         to("b/new.img"),
         err="b/new.img: F1 File",
@@ -140,70 +148,77 @@ ROWS = [
         modes={"b": 0o555},
     ),
     *(
-        Run(
+        Case(
             f"{what}, in place of an old image",
             ALL,
             err="new.img: F1 File",
             status=3,
             files=OLD,
-            under=under,
+            conditions=conditions,
         )
-        for what, under in FAILING
+        for what, conditions in FAILING
     ),
     *(
-        Run(f"{what}, a new image", ALL, err="new.img: F1 File", status=3, under=under)
-        for what, under in FAILING
+        Case(f"{what}, a new image", ALL, err="new.img: F1 File", status=3, conditions=conditions)
+        for what, conditions in FAILING
     ),
     *(
-        Run(
+        Case(
             f"{what}, by a link",
             to("link"),
             err="link: F1 File",
             status=3,
             files=LINKED,
-            under=under,
+            conditions=conditions,
         )
-        for what, under in FAILING
+        for what, conditions in FAILING
     ),
-    Run(
+    Case(
         "a mode that can't be kept",
         ALL,
         err="new.img: F1 File",
         status=3,
         files=OLD,
-        under=Under(fails="fchmod"),
+        conditions=Conditions(fails="fchmod"),
     ),
-    Run(
-        "refused sources",
+    Case(
+        "rejected sources",
         f"{ALL} user.csv",
         err="user.csv:1: S2 TooFewFields",
         status=1,
         files={**OLD, "user.csv": b"X"},
     ),
-    Run(
+    Case(
         "killed while it writes",
         ALL,
         status=-25,
         files=OLD,
-        left={BESIDE: ANY},
-        under=Under(most=SMALL, killed=True),
+        changes={BESIDE: ANY},
+        conditions=Conditions(max_file=SMALL, killed=True),
     ),
-    Run(
+    Case(
         "the name of a killed run",
         ALL,
         out=LINE,
         files=OLD,
-        left={**MADE, **LEFT},
-        under=Under(taken=BESIDE),
+        changes=MADE_BESIDE,
+        conditions=Conditions(existing=BESIDE),
     ),
     *(
-        Run(f"mode {mode:o} is kept", ALL, out=LINE, files=OLD, left=MADE, modes={"new.img": mode})
+        Case(
+            f"mode {mode:o} is kept",
+            ALL,
+            out=LINE,
+            files=OLD,
+            changes=MADE,
+            modes={"new.img": mode},
+        )
         for mode in (0o600, 0o444, 0o664, 0o777)
     ),
     *(
-        Run(
+        Case(
             f"a path with controls, {told}",
-            f"jseg -d {shell(path)}",
+            f"jseg -d {quoted(path)}",
             err=f"{told}: F1 File",
             status=3,
         )

@@ -1,8 +1,9 @@
-"""Images that are loaded, and refused ones."""
+"""Images that are loaded, and images that are rejected."""
 import hashlib
 import struct
+from typing import Iterator, Mapping, Tuple
 
-from .case import USER, Run
+from .case import USER, Case
 
 HEADER = "4d4a444943540d0a 01000000 01000000 02000000 02000000 00000000 01000000 01000000 00000000"
 TAIL = "00000000 01000000  0100 0100 0100 0000 00000000 01000000  58"
@@ -12,16 +13,16 @@ LENGTHS = struct.pack("<8Q", 0, 0, 0, 0, 8, 8, 16, 1)
 LAYOUT_1 = bytes.fromhex(HEADER) + LENGTHS + bytes.fromhex("0600 e38282e38282" + TAIL)
 
 
-def changed(image, *changes):
-    """An image with other bytes from an offset on."""
-    image = bytearray(image)
+def changed(image: bytes, *changes: Tuple[int, bytes]) -> bytes:
+    """Returns an image with other bytes. A change is an offset and the bytes from there on."""
+    other = bytearray(image)
     for offset, data in changes:
-        image[offset : offset + len(data)] = data
-    return bytes(image)
+        other[offset : offset + len(data)] = data
+    return bytes(other)
 
 
-def cells(used):
-    """The section of 100 cells, of which these are used."""
+def cells(used: Mapping[int, Tuple[int, int]]) -> bytes:
+    """Returns a section of 100 cells, with BASE and CHECK of those that are used."""
     return b"".join(struct.pack("<2i", *used.get(number, (0, -1))) for number in range(100))
 
 
@@ -30,8 +31,8 @@ LAYOUT_2 = changed(LAYOUT_1[:104], (8, b"\2"), (72, struct.pack("<Q", 800)))
 LAYOUT_2 += cells({0: (1, -2), 1: (-1, 99), 99: (1, 0)}) + bytes.fromhex(TAIL)
 
 
-def with_digest(image):
-    """As layout 3: the SHA-256 of the bytes stands after them."""
+def with_digest(image: bytes) -> bytes:
+    """Returns an image of layout 2 as layout 3, which ends with the SHA-256 of the other bytes."""
     image = changed(image, (8, b"\3"))
     return image + hashlib.sha256(image).digest()
 
@@ -39,7 +40,7 @@ def with_digest(image):
 LAYOUT_3 = with_digest(LAYOUT_2)
 
 REFUSED = [
-    # (the image, code, name and number)
+    # (image, error)
     (LAYOUT_1[:136], "L1 Truncated"),
     (LAYOUT_3[:960], "L1 Truncated"),
     (b"", "L1 Truncated"),
@@ -59,38 +60,40 @@ REFUSED = [
 ]
 
 
-def of_refused(image, fault):
-    """A refused image: the system's and a user's of jseg, and the one that dictc compiles for."""
+def rejected(image: bytes, error: str) -> Iterator[Case]:
+    """Yields the runs that reject an image: as a system and as a user dictionary of jseg, and as
+    the system dictionary for which dictc compiles."""
     files = {"bad.img": image}
-    told = f"bad.img: {fault}"
-    yield Run(f"{fault}, -d", "jseg -d bad.img", "も\n", err=told, status=1, files=files)
-    yield Run(
-        f"{fault}, -u",
+    err = f"bad.img: {error}"
+    yield Case(f"{error}, -d", "jseg -d bad.img", "も\n", err=err, status=1, files=files)
+    yield Case(
+        f"{error}, -u",
         "jseg -d sys.img -u user.img -u bad.img",
         "も\n",
-        err=told,
+        err=err,
         status=1,
         files=files,
     )
-    yield Run(
-        f"{fault}, --dic",
+    yield Case(
+        f"{error}, --dic",
         "dictc user --dic bad.img --out new.img user.csv",
-        err=told,
+        err=err,
         status=1,
         files=files,
     )
-    if fault != "L8 Digest":
-        yield Run(
-            f"{fault}, --skip-digest",
+    if error != "L8 Digest":
+        yield Case(
+            f"{error}, --skip-digest",
             "jseg --skip-digest -d bad.img",
             "も\n",
-            err=told,
+            err=err,
             status=1,
             files=files,
         )
 
 
-# Images that are intact but for their digest: the one digest is another, and the other that of another feature.
+# Images that are valid except for their checksum: one has another checksum, and the other another
+# feature.
 UNTESTED = {
     "digest.img": changed(LAYOUT_3, (960, bytes([LAYOUT_3[960] ^ 1]))),
     "feature.img": changed(LAYOUT_3, (928, b"Y")),
@@ -103,11 +106,11 @@ ENDLESS = [
 ]
 OLDER = {"1.img": LAYOUT_1, "2.img": LAYOUT_2, "3.img": LAYOUT_3}
 
-ROWS = [run for row in REFUSED for run in of_refused(*row)] + [
-    Run("layout 1", "jseg -d sys.img -u 1.img", "もも\n", "もも\tX\nEOS\n", files=OLDER),
-    Run("layout 2", "jseg -d sys.img -u 2.img", "a\n", "a\tX\nEOS\n", files=OLDER),
-    Run("layout 3", "jseg -d sys.img -u 3.img", "a\n", "a\tX\nEOS\n", files=OLDER),
-    Run(
+CASES = [run for row in REFUSED for run in rejected(*row)] + [
+    Case("layout 1", "jseg -d sys.img -u 1.img", "もも\n", "もも\tX\nEOS\n", files=OLDER),
+    Case("layout 2", "jseg -d sys.img -u 2.img", "a\n", "a\tX\nEOS\n", files=OLDER),
+    Case("layout 3", "jseg -d sys.img -u 3.img", "a\n", "a\tX\nEOS\n", files=OLDER),
+    Case(
         "layout 1 as the system's",
         "jseg -d 1.img",
         "もも\n",
@@ -115,14 +118,14 @@ ROWS = [run for row in REFUSED for run in of_refused(*row)] + [
         status=1,
         files=OLDER,
     ),
-    Run(
+    Case(
         "another digest",
         "jseg -d sys.img --skip-digest -u digest.img",
         "a\n",
         "a\tX\nEOS\n",
         files=UNTESTED,
     ),
-    Run(
+    Case(
         "a feature under an old digest",
         "jseg -d sys.img --skip-digest -u feature.img",
         "a\n",
@@ -130,58 +133,58 @@ ROWS = [run for row in REFUSED for run in of_refused(*row)] + [
         files=UNTESTED,
     ),
     *(
-        Run(f"no end, {words}", words, "も\n", err="/dev/zero: L2 BadMagic", status=1)
-        for words in ENDLESS
+        Case(f"no end, {command}", command, "も\n", err="/dev/zero: L2 BadMagic", status=1)
+        for command in ENDLESS
     ),
-    Run(
+    Case(
         "dictc skips it too",
         "dictc user --skip-digest --dic digest.img --out new.img user.csv",
         err="digest.img: O1 NotSystem",
         status=1,
         files=UNTESTED,
     ),
-    Run(
+    Case(
         "a user's as the system's",
         "jseg -d user.img",
         "も\n",
         err="user.img: O1 NotSystem",
         status=1,
     ),
-    Run(
+    Case(
         "for a user's",
         "dictc user --dic user.img --out new.img user.csv",
         err="user.img: O1 NotSystem",
         status=1,
     ),
-    Run(
+    Case(
         "the system's as a user's",
         "jseg -d sys.img -u sys.img",
         "も\n",
         err="sys.img: O2 NotUser 0",
         status=1,
     ),
-    Run(
+    Case(
         "a second one",
         "jseg -d sys.img -u user.img -u sys.img",
         err="sys.img: O2 NotUser 1",
         status=1,
     ),
-    Run(
+    Case(
         "for other sizes",
         "jseg -d sys.img -u other.img",
         err="other.img: O3 OtherSizes 0",
         status=1,
         files=OTHER_SIZES,
     ),
-    Run("O1 before O2", "jseg -d user.img -u sys.img", err="user.img: O1 NotSystem", status=1),
-    Run(
+    Case("O1 before O2", "jseg -d user.img -u sys.img", err="user.img: O1 NotSystem", status=1),
+    Case(
         "O2 before O3",
         "jseg -d sys.img -u sys.img -u other.img",
         err="sys.img: O2 NotUser 0",
         status=1,
         files=OTHER_SIZES,
     ),
-    Run(
+    Case(
         "a lexicon is read before O1",
         f"{USER.replace('sys', 'user')} none.csv",
         err="none.csv: F1 File",

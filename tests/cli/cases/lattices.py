@@ -1,16 +1,22 @@
-"""Lattices that are printed: as tables, and as graphs for Graphviz."""
-from .case import Has, Run, Under
+"""`jseg --lattice`: lattices as tables, and as graphs for Graphviz."""
+from typing import List, Tuple
+
+from .case import Case, Conditions, Files, Has
 from .streams import DEVICES, FAILING
 
 LEXICON = "a/lexicon.csv"
-HEADING = "place\tstart\tend\tsurface\tleft\tright\tcost\tknown\tdictionary\ttoken\ttotal\tthrough\tlost\tbest\tfeature\n"
+HEADING = (
+    "place\tstart\tend\tsurface\tleft\tright\tcost\tknown\tdictionary\ttoken\t"
+    "total\tthrough\tlost\tbest\tfeature\n"
+)
 PLUMS, PLUM, BEST = (
     "すもも\t1\t1\t100\tknown\t0\t0\t110\t152\t0\t*\t名詞,すもも",
     "もも\t1\t1\t30\tknown\t0\t2",
     "0\t*\t名詞,もも",
 )
 
-# The words of a line, one each, by tabs as a table has them. BOS and a word cost 10, two words 7, and a word and EOS 5.
+# The rows of a table, one a node. The connection costs are 10 from BOS to a word, 7 from word to
+# word, and 5 from a word to EOS.
 SUMOMO = [
     f"0\t0\t9\t{PLUMS}",
     "9\t9\t12\tも\t1\t1\t20\tknown\t0\t1\t137\t169\t17\t\t助詞,も",
@@ -21,13 +27,14 @@ MO = "0\t0\t3\tも\t1\t1\t20\tknown\t0\t1\t30\t35\t0\t*\t助詞,も"
 TWICE = {LEXICON: "も,1,1,20,一\nも,1,1,20,二\nもも,1,1,47,三\n".encode()}
 FIELDS = {LEXICON: 'も,1,1,20,"名詞 ""も""",も\\\n'.encode()}
 USER = "もも\t1\t1\t1\tknown\t1\t0"
-# With no grouping two words, 10 + 1000 and 1010 + 7 + 1000; 2017 + 5.
+NO_FILES: Files = {}
+# Without grouping there are two words, at 10 + 1000 and 1010 + 7 + 1000; the path costs 2017 + 5.
 LETTERS = [
     f"{place}\t{place}\t{place + 1}\tz\t1\t1\t1000\tunknown\t\t5\t{total}\t2022\t0\t*\t未知"
     for place, total in ((0, 1010), (1, 2017))
 ]
-TABLES = [
-    # (what, words, line, rows, what else is there)
+TABLES: List[Tuple[str, str, str, List[str], Files]] = [
+    # (what, options, line, rows, files)
     ("all nodes", "--sample", "すもももも", SUMOMO, {}),
     ("all nodes", "-d sys.img", "すもももも", SUMOMO, {}),
     ("all nodes", "--sources a", "すもももも", SUMOMO, {}),
@@ -37,7 +44,7 @@ TABLES = [
     ("no word", "--sample", "", [], {}),
     ("blanks alone", "--sample", "  ", [], {}),
     (
-        "blanks before a word and behind it",
+        "blanks before a word and after it",
         "--sample",
         " も ",
         ["0\t1\t4\tも\t1\t1\t20\tknown\t0\t1\t30\t35\t0\t*\t助詞,も"],
@@ -79,8 +86,8 @@ TABLES = [
         {},
     ),
     *(
-        ("words without grouping", f"{words} -M 0", "zz", LETTERS, {})
-        for words in ("--sample", "-d sys.img", "--sources a")
+        ("words without grouping", f"{command} -M 0", "zz", LETTERS, NO_FILES)
+        for command in ("--sample", "-d sys.img", "--sources a")
     ),
     (
         "a tab and a backslash",
@@ -108,7 +115,7 @@ TABLES = [
 BEST_BOX, BEST_EDGE = ", color=red, penwidth=2", " [color=red, penwidth=2]"
 
 
-def graph(label, *lines):
+def graph(label: str, *lines: str) -> str:
     return "".join(
         f"{line}\n"
         for line in (
@@ -122,8 +129,8 @@ def graph(label, *lines):
     )
 
 
-def word(number, start, end, label, best=True):
-    """The lines of a word."""
+def word(number: int, start: int, end: int, label: str, best: bool = True) -> str:
+    """Returns the lines of the box of a node and of its edges."""
     box, edge = (BEST_BOX, BEST_EDGE) if best else ("", "")
     return f'  w{number} [shape=box{box}, label="{label}"];\n  {start} -> w{number} -> {end}{edge};'
 
@@ -143,8 +150,8 @@ ODD = {LEXICON: "も,1,1,20,\ufffe\x1b\uffff\u0085\uffe6¢\n".encode()}
 IN_FEATURE = word(
     0, 0, 3, "も\\n\\\\u{fffe}\\\\u{1b}\\\\u{ffff}\\\\u{85}\uffe6¢\\ncost 20\\ntotal 30\\nlost 0"
 )
-GRAPHS = [
-    # (what, words, line, graph, what else is there)
+GRAPHS: List[Tuple[str, str, str, str, Files]] = [
+    # (what, options, line, graph, files)
     ("all nodes", "--sample", "すもももも", graph("すもももも", FIRST, SECOND, THIRD, FOURTH), {}),
     ("all nodes", "-d sys.img", "すもももも", graph("すもももも", FIRST, SECOND, THIRD, FOURTH), {}),
     ("all nodes", "--sources a", "すもももも", graph("すもももも", FIRST, SECOND, THIRD, FOURTH), {}),
@@ -183,7 +190,7 @@ GRAPHS = [
 ]
 
 
-def table(*rows):
+def table(*rows: str) -> str:
     return HEADING + "".join(f"{row}\n" for row in rows) + "\n"
 
 
@@ -192,7 +199,7 @@ BAD = b"\xe3\x82\x82\n\xff\n\xe3\x82\x82\n"
 FORMS = ["--lattice tsv", "--lattice dot"]
 CONFLICTS = ["-O wakati", "-F %m", "-U %m", "-B x", "-E x"]
 WRONG = [
-    # (what, words)
+    # (what, command)
     ("no form", "jseg --sample --lattice"),
     ("another form", "jseg --sample --lattice svg"),
     ("a form twice", "jseg --sample --lattice tsv --lattice dot"),
@@ -202,34 +209,34 @@ WRONG = [
     ("a bound above 2 ^ 63", "jseg --sample --lattice dot --within 9223372036854775808"),
     ("a list of images", "jseg --dictionaries --lattice tsv"),
     ("a list of images within a bound", "jseg --dictionaries --within 5"),
-    *((f"a form and {words}", f"jseg --sample --lattice tsv {words}") for words in CONFLICTS),
+    *((f"a form and {command}", f"jseg --sample --lattice tsv {command}") for command in CONFLICTS),
 ]
 
-ROWS = [
+CASES = [
     *(
-        Run(
-            f"a table of {what}, {words}",
-            f"jseg --lattice tsv {words}",
+        Case(
+            f"a table of {what}, {command}",
+            f"jseg --lattice tsv {command}",
             f"{line}\n",
             table(*rows),
             files=files,
         )
-        for what, words, line, rows, files in TABLES
+        for what, command, line, rows, files in TABLES
     ),
     *(
-        Run(
-            f"a graph of {what}, {words}",
-            f"jseg --lattice dot {words}",
+        Case(
+            f"a graph of {what}, {command}",
+            f"jseg --lattice dot {command}",
             f"{line}\n",
             text,
             files=files,
         )
-        for what, words, line, text, files in GRAPHS
+        for what, command, line, text, files in GRAPHS
     ),
-    Run("two tables", "jseg --sample --lattice tsv", "も\n\nも", ONE + table() + ONE),
-    Run("two graphs", "jseg --sample --lattice dot --within 0", "\n\n", graph("") + graph("")),
-    *(Run(f"no text, {form}", f"jseg --sample {form}") for form in FORMS),
-    Run(
+    Case("two tables", "jseg --sample --lattice tsv", "も\n\nも", ONE + table() + ONE),
+    Case("two graphs", "jseg --sample --lattice dot --within 0", "\n\n", graph("") + graph("")),
+    *(Case(f"no text, {form}", f"jseg --sample {form}") for form in FORMS),
+    Case(
         "a table before a bad line",
         "jseg --sample --lattice tsv",
         BAD,
@@ -237,7 +244,7 @@ ROWS = [
         "line 2: G3 NotUtf8",
         1,
     ),
-    Run(
+    Case(
         "a table before a bad line, an image",
         "jseg -d sys.img --lattice tsv",
         BAD,
@@ -245,37 +252,37 @@ ROWS = [
         "line 2: G3 NotUtf8",
         1,
     ),
-    Run(
+    Case(
         "a table before input that fails",
         "jseg --sample --lattice tsv",
         "も\nす",
         ONE,
         "line 2: G1 Read",
         3,
-        under=FAILING,
+        conditions=FAILING,
     ),
     *(
-        Run(
+        Case(
             f"{form}, output {what}",
             f"jseg --sample {form}",
             "も\n",
             err="G2 Write 0",
             status=3,
-            under=under,
+            conditions=conditions,
         )
         for form in FORMS
-        for what, under in DEVICES
+        for what, conditions in DEVICES
     ),
-    Run(
+    Case(
         "a table of 5 bytes",
         "jseg --sample --lattice tsv",
         "も\n",
         "place",
         "G2 Write 5",
         3,
-        under=Under(stdout="file", most=5),
+        conditions=Conditions(stdout="file", max_file=5),
     ),
-    Run(
+    Case(
         "a lattice of sources at fault",
         "jseg --sources a --lattice tsv",
         "も\n",
@@ -283,12 +290,15 @@ ROWS = [
         status=1,
         files={LEXICON: b"x,1,1,x,\n"},
     ),
-    Run(
+    Case(
         "a lattice of no sources",
         "jseg --sources none --lattice dot",
         "も\n",
         err="none/matrix.def: F1 File",
         status=3,
     ),
-    *(Run(f"refused: {what}", words, "も\n", err=Has("jseg: "), status=2) for what, words in WRONG),
+    *(
+        Case(f"rejected: {what}", command, "も\n", err=Has("jseg: "), status=2)
+        for what, command in WRONG
+    ),
 ]

@@ -1,11 +1,13 @@
-"""Sources that are refused."""
-from .case import CHARS, LEXICON, SYSTEM, UNK, USER, Exactly, Run, Under
+"""Sources that are rejected."""
+from typing import Iterator, Sequence, Tuple
+
+from .case import CHARS, LEXICON, SYSTEM, UNK, USER, Case, Conditions, Exactly, Files
 
 MANY = b"".join(b"CATEGORY%d 0 0 0\n" % i for i in range(13))
 LONG = b"z" * 65_536 + b",1,1,1,X\n"
 
 DEFINITIONS = [
-    # (file, its bytes, the line that is printed, code, name and number)
+    # (file, its bytes, the line that is printed, error)
     ("matrix.def", b"", 0, "M1 BadHeader"),
     ("matrix.def", b"\n0 2\n", 2, "M1 BadHeader"),
     ("matrix.def", b"2 2\n0 0 40000\n", 2, "M2 BadRow"),
@@ -28,7 +30,7 @@ DEFINITIONS = [
 ]
 
 LEXICONS = [
-    # (its bytes, the line that is printed, code and name)
+    # (its bytes, the line that is printed, error)
     (LEXICON + b"\xff,1,1,1,X\n", 4, "S1 NotUtf8"),
     (b'"ab,1,1,10,X\n', 1, "S2 TooFewFields"),
     (LEXICON + b"a,1,1,-32769,X\n", 4, "S3 BadNumber"),
@@ -37,41 +39,42 @@ LEXICONS = [
 ]
 
 
-def of_definition(file, data, line, fault):
-    """A bad file of the folder a, read by both programs."""
+def invalid_definition(file: str, data: bytes, line: int, error: str) -> Iterator[Case]:
+    """Yields the runs of both programs over an invalid file of the directory a."""
     files = {f"a/{file}": data}
-    told = f"a/{file}:{line}: {fault}"
-    yield Run(
-        f"{fault} in {file}, dictc", f"{SYSTEM} a/lexicon.csv", err=told, status=1, files=files
+    err = f"a/{file}:{line}: {error}"
+    yield Case(
+        f"{error} in {file}, dictc", f"{SYSTEM} a/lexicon.csv", err=err, status=1, files=files
     )
-    yield Run(
-        f"{fault} in {file}, jseg", "jseg --sources a", "も\n", err=told, status=1, files=files
+    yield Case(
+        f"{error} in {file}, jseg", "jseg --sources a", "も\n", err=err, status=1, files=files
     )
 
 
-def of_lexicon(data, line, fault):
-    """A bad lexicon: of the folder a, as a second one, and of a user."""
-    yield from of_definition("lexicon.csv", data, line, fault)
+def invalid_lexicon(data: bytes, line: int, error: str) -> Iterator[Case]:
+    """Yields the runs over an invalid lexicon: of the directory a, a second one, and a user's."""
+    yield from invalid_definition("lexicon.csv", data, line, error)
     files = {"bad.csv": data}
-    told = f"bad.csv:{line}: {fault}"
-    yield Run(
-        f"{fault} in a second lexicon",
+    err = f"bad.csv:{line}: {error}"
+    yield Case(
+        f"{error} in a second lexicon",
         f"{SYSTEM} a/lexicon.csv bad.csv",
-        err=told,
+        err=err,
         status=1,
         files=files,
     )
-    yield Run(f"{fault} of a user", f"{USER} bad.csv", err=told, status=1, files=files)
+    yield Case(f"{error} of a user", f"{USER} bad.csv", err=err, status=1, files=files)
 
 
-ROWS = [run for row in DEFINITIONS for run in of_definition(*row)] + [
-    run for row in LEXICONS for run in of_lexicon(*row)
+CASES = [run for row in DEFINITIONS for run in invalid_definition(*row)] + [
+    run for row in LEXICONS for run in invalid_lexicon(*row)
 ]
 
-# All faults of lexicons, each with its line: those of each file, its ids after its lines; nothing is written.
-FAULTY = "も,1,1,20,助詞\na,1,1\r\n\nb,1,1,x,X\n\tc,2,1,5,\x01\n".encode() + b"\xff,1,1,1,X"
-FAULTS = [
-    # (line, code and name, the line as it is told)
+# With --all-faults: the errors of each file, first of its lines and then of its ids. Nothing is
+# written.
+INVALID = "も,1,1,20,助詞\na,1,1\r\n\nb,1,1,x,X\n\tc,2,1,5,\x01\n".encode() + b"\xff,1,1,1,X"
+ERRORS = [
+    # (line, error, the text of the line as it is printed)
     (2, "S2 TooFewFields", "a,1,1"),
     (4, "S3 BadNumber", "b,1,1,x,X"),
     (6, "S1 NotUtf8", "\ufffd,1,1,1,X"),
@@ -82,55 +85,60 @@ TWENTY = b"".join(b"%d,1,1\n" % number for number in range(25))
 MORE = "dictc: 20 faults were reported, and there may be more\n"
 
 
-def told_faults(path, faults):
-    """What is told of them: of each its line, and the text of that in the file."""
-    return "".join(f"dictc: {path}:{line}: {fault}\n  {text}\n" for line, fault, text in faults)
+def printed_errors(path: str, errors: Sequence[Tuple[int, str, str]]) -> str:
+    """Returns the lines that are printed for the errors of a file."""
+    return "".join(f"dictc: {path}:{line}: {error}\n  {text}\n" for line, error, text in errors)
 
 
-def of_all(what, words, err, files):
-    """What is told with --all-faults. No image is left."""
-    return Run(
-        f"all faults: {what}", f"{words} --all-faults", err=Exactly(err), status=1, files=files
-    )
+def all_errors(what: str, command: str, err: str, files: Files) -> Case:
+    """Returns a run with --all-faults, which writes no image."""
+    name, command = f"all faults: {what}", f"{command} --all-faults"
+    return Case(name, command, err=Exactly(err), status=1, files=files)
 
 
-TWO = {"bad.csv": FAULTY, "other.csv": b"c,1,1\n"}
-ROWS += [
-    of_all("of a system", f"{SYSTEM} a/lexicon.csv bad.csv", told_faults("bad.csv", FAULTS), TWO),
-    of_all("of a user", f"{USER} bad.csv", told_faults("bad.csv", FAULTS), TWO),
-    of_all(
+TWO = {"bad.csv": INVALID, "other.csv": b"c,1,1\n"}
+CASES += [
+    all_errors(
+        "of a system", f"{SYSTEM} a/lexicon.csv bad.csv", printed_errors("bad.csv", ERRORS), TWO
+    ),
+    all_errors("of a user", f"{USER} bad.csv", printed_errors("bad.csv", ERRORS), TWO),
+    all_errors(
         "of two files",
         f"{USER} bad.csv other.csv",
-        told_faults("bad.csv", FAULTS)
-        + told_faults("other.csv", [(1, "S2 TooFewFields", "c,1,1")]),
+        printed_errors("bad.csv", ERRORS)
+        + printed_errors("other.csv", [(1, "S2 TooFewFields", "c,1,1")]),
         TWO,
     ),
-    of_all(
-        "one", f"{USER} other.csv", told_faults("other.csv", [(1, "S2 TooFewFields", "c,1,1")]), TWO
+    all_errors(
+        "one",
+        f"{USER} other.csv",
+        printed_errors("other.csv", [(1, "S2 TooFewFields", "c,1,1")]),
+        TWO,
     ),
-    of_all(
+    all_errors(
         "a long line",
         f"{USER} long.csv",
-        told_faults("long.csv", [(1, "S2 TooFewFields", LONG_LINE[:200] + "..")]),
+        printed_errors("long.csv", [(1, "S2 TooFewFields", LONG_LINE[:200] + "..")]),
         {"long.csv": LONG_LINE.encode()},
     ),
-    of_all(
+    all_errors(
         "20 of 25",
         f"{USER} many.csv",
-        told_faults("many.csv", [(n + 1, "S2 TooFewFields", f"{n},1,1") for n in range(20)]) + MORE,
+        printed_errors("many.csv", [(n + 1, "S2 TooFewFields", f"{n},1,1") for n in range(20)])
+        + MORE,
         {"many.csv": TWENTY},
     ),
-    of_all(
+    all_errors(
         "no line of a lexicon",
         f"{SYSTEM} bad.csv",
         "dictc: a/unk.def:7: S2 TooFewFields\n",
         {**TWO, "a/unk.def": UNK + b"KANJI,1,1\n"},
     ),
-    Run(
+    Case(
         "all faults: none",
         f"{SYSTEM} --all-faults a/lexicon.csv",
         out="3 entries, 0 skipped\n",
-        left={"new.img": "sys.img"},
+        changes={"new.img": "sys.img"},
     ),
 ]
 
@@ -143,32 +151,33 @@ C4, S2, S3 = (
     "a/unk.def:7: S2 TooFewFields",
     "a/unk.def:8: S3 BadNumber",
 )
-ROWS += [
-    Run("char.def before unk.def", f"{SYSTEM} a/lexicon.csv", err=C4, status=1, files=BAD_CHARS),
-    Run("unk.def before the lexicon", "jseg --sources a", err=S2, status=1, files=BAD_UNK),
-    Run("lines before ids", f"{SYSTEM} a/lexicon.csv", err=S3, status=1, files=BAD_IDS),
+CASES += [
+    Case("char.def before unk.def", f"{SYSTEM} a/lexicon.csv", err=C4, status=1, files=BAD_CHARS),
+    Case("unk.def before the lexicon", "jseg --sources a", err=S2, status=1, files=BAD_UNK),
+    Case("lines before ids", f"{SYSTEM} a/lexicon.csv", err=S3, status=1, files=BAD_IDS),
 ]
 
-# 2^28 entries are 15 GB. These are all of one line, so that memory which repeats holds them.
-MANY_ENTRIES = Under(stdin="entries", repeats=True, seconds=600)
-ROWS.append(
-    Run(
+# 2^28 entries are 15 GB. These are equal, so that blocks of memory that repeat hold them.
+MANY_ENTRIES = Conditions(stdin="entries", repeats=True, seconds=600)
+CASES.append(
+    Case(
         "too many entries",
         f"{SYSTEM} /dev/stdin",
         err="/dev/stdin:268435457: S5 TooMany",
         status=1,
-        under=MANY_ENTRIES,
+        conditions=MANY_ENTRIES,
     )
 )
 
-# A line of 4 GB, which repeats too: its feature has one byte more than those of an image may have together.
-LONG_FEATURE = Under(stdin="feature", repeats=True, seconds=600)
-ROWS.append(
-    Run(
+# A line of 4 GB, which repeats too. Its feature has one byte more than all features of an image may
+# have.
+LONG_FEATURE = Conditions(stdin="feature", repeats=True, seconds=600)
+CASES.append(
+    Case(
         "features too large",
         f"{SYSTEM} /dev/stdin",
         err="I3 FeaturesTooLarge",
         status=1,
-        under=LONG_FEATURE,
+        conditions=LONG_FEATURE,
     )
 )

@@ -1,121 +1,144 @@
-"""Standard streams that fail, and want of memory."""
-from .case import SYSTEM, Run, Under
+"""Standard streams that fail, and memory that runs out."""
+from .case import SYSTEM, Case, Conditions
 from .texts import MO, SUMOMO
 
 ALL = f"{SYSTEM} a/lexicon.csv"
 MADE = {"new.img": "sys.img"}
 LARGE = {"a/matrix.def": b"32767 32767\n"}
-FAILING, RESET = Under(stdin="failing"), Under(stdin="reset")
-MEMORY = Under(memory=512 << 20)
-FULL, CLOSED, UNREAD = (Under(stdout=stdout) for stdout in ("full", "closed", "unread"))
-INTERRUPTED = Under(stdout="file", fails="interrupted write")
+FAILING, RESET = Conditions(stdin="failing"), Conditions(stdin="reset")
+MEMORY = Conditions(memory=512 << 20)
+FULL, CLOSED, UNREAD = (Conditions(stdout=stdout) for stdout in ("full", "closed", "unread"))
+INTERRUPTED = Conditions(stdout="file", fails="interrupted write")
 DEVICES = [("full", FULL), ("closed", CLOSED), ("unread", UNREAD)]
 CUTS = ["jseg --sample", "jseg -d sys.img"]
 HELP = ["dictc --help", "dictc system --help", "dictc user --help", "jseg --help"]
 
-ROWS = [
-    Run(
+CASES = [
+    Case(
         "input that is a directory",
         "jseg --sample",
         err="line 1: G1 Read",
         status=3,
-        under=Under(stdin="directory"),
+        conditions=Conditions(stdin="directory"),
     ),
-    Run(
+    Case(
         "input that is closed",
         "jseg --sample",
         err="line 1: G1 Read",
         status=3,
-        under=Under(stdin="closed"),
+        conditions=Conditions(stdin="closed"),
     ),
-    Run("input that fails", "jseg --sample", "も\nす", MO, "line 2: G1 Read", 3, under=FAILING),
-    Run(
+    Case("input that fails", "jseg --sample", "も\nす", MO, "line 2: G1 Read", 3, conditions=FAILING),
+    Case(
         "input that fails, an image",
         "jseg -d sys.img",
         "も\nも\nす",
         MO + MO,
         "line 3: G1 Read",
         3,
-        under=FAILING,
+        conditions=FAILING,
     ),
     *(
-        Run(
-            f"{words}, of input whose first read fails",
-            words,
+        Case(
+            f"{command}, of input whose first read fails",
+            command,
             err="line 1: G1 Read",
             status=3,
-            under=RESET,
+            conditions=RESET,
         )
-        for words in CUTS
+        for command in CUTS
     ),
     *(
-        Run(f"output {what}", "jseg --sample", "すもももも\n", err="G2 Write 0", status=3, under=under)
-        for what, under in DEVICES
+        Case(
+            f"output {what}",
+            "jseg --sample",
+            "すもももも\n",
+            err="G2 Write 0",
+            status=3,
+            conditions=conditions,
+        )
+        for what, conditions in DEVICES
     ),
     *(
-        Run(
+        Case(
             f"output {what}, an image",
             "jseg -d sys.img",
             "すもももも\n",
             err="G2 Write 0",
             status=3,
-            under=under,
+            conditions=conditions,
         )
-        for what, under in DEVICES
+        for what, conditions in DEVICES
     ),
-    Run(
+    Case(
         "output of 5 bytes",
         "jseg --sample",
         "すもももも\n",
         b"\xe3\x81\x99\xe3\x82",
         "G2 Write 5",
         3,
-        under=Under(stdout="file", most=5),
+        conditions=Conditions(stdout="file", max_file=5),
     ),
-    Run(
+    Case(
         "output of 52 bytes",
         "jseg --sample",
         "すもももも\n",
         SUMOMO,
-        under=Under(stdout="file", most=52),
+        conditions=Conditions(stdout="file", max_file=52),
     ),
     *(
-        Run(
-            f"{words}, interrupted", words, "すもももも\n", err="G2 Write 0", status=3, under=INTERRUPTED
+        Case(
+            f"{command}, interrupted",
+            command,
+            "すもももも\n",
+            err="G2 Write 0",
+            status=3,
+            conditions=INTERRUPTED,
         )
-        for words in CUTS
+        for command in CUTS
     ),
     *(
-        Run(f"{words}, interrupted", words, err="F2 Output", status=3, under=INTERRUPTED)
-        for words in HELP
+        Case(f"{command}, interrupted", command, err="F2 Output", status=3, conditions=INTERRUPTED)
+        for command in HELP
     ),
-    Run("nothing to write", "jseg --sample", under=FULL),
+    Case("nothing to write", "jseg --sample", conditions=FULL),
     *(
-        Run(f"what was compiled, {what}", ALL, err="F2 Output", status=3, left=MADE, under=under)
-        for what, under in DEVICES
+        Case(
+            f"what was compiled, {what}",
+            ALL,
+            err="F2 Output",
+            status=3,
+            changes=MADE,
+            conditions=conditions,
+        )
+        for what, conditions in DEVICES
     ),
     *(
-        Run(f"{words}, {what}", words, err="F2 Output", status=3, under=under)
-        for words in HELP
-        for what, under in DEVICES
+        Case(f"{command}, {what}", command, err="F2 Output", status=3, conditions=conditions)
+        for command in HELP
+        for what, conditions in DEVICES
     ),
-    Run("no fault can be told", "jseg -d none.img", status=3, under=Under(stderr="full")),
-    Run("no wrong command line can be told", "jseg", status=2, under=Under(stderr="full")),
-    Run(
+    Case(
+        "no fault can be told", "jseg -d none.img", status=3, conditions=Conditions(stderr="full")
+    ),
+    Case(
+        "no wrong command line can be told", "jseg", status=2, conditions=Conditions(stderr="full")
+    ),
+    Case(
         "no memory to compile",
         ALL,
         err="Memory",
         status=4,
         files={**LARGE, "new.img": b"old"},
-        under=MEMORY,
+        conditions=MEMORY,
     ),
-    Run(
+    Case(
         "no memory for sources",
         "jseg --sources a",
         "も\n",
         err="Memory",
         status=4,
         files=LARGE,
-        under=MEMORY,
+        conditions=MEMORY,
     ),
 ]

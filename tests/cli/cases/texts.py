@@ -1,17 +1,19 @@
-"""Texts that are cut: by which dictionary, with which options, and texts and formats that are refused."""
-from .case import ANY, CHARS, DEFINITIONS, MATRIX, SYSTEM, UNK, USER, Run
+"""Texts that are segmented, by dictionary and by options; texts and formats that are rejected."""
+from typing import Iterator
+
+from .case import ANY, CHARS, DEFINITIONS, MATRIX, SYSTEM, UNK, USER, Case, Files
 
 SUMOMO = "すもも\t名詞,すもも\nもも\t名詞,もも\nEOS\n"
 MO = "も\t助詞,も\nEOS\n"
 
 DICTIONARIES = [
-    Run("the sample", "jseg --sample", "すもももも\n", SUMOMO),
-    Run("an image", "jseg -d sys.img", "すもももも\n", SUMOMO),
-    Run("sources", "jseg --sources a", "すもももも\n", SUMOMO),
-    Run("a path with a slash behind it", "jseg --sources ./a/", "すもももも\n", SUMOMO),
-    Run("a user", "jseg -d sys.img -u user.img", "もも\n", "もも\t名詞,ユーザ\nEOS\n"),
-    Run("two users", "jseg -d sys.img -u user.img -u second.img", "もも\n", "もも\t名詞,ユーザ\nEOS\n"),
-    Run(
+    Case("the sample", "jseg --sample", "すもももも\n", SUMOMO),
+    Case("an image", "jseg -d sys.img", "すもももも\n", SUMOMO),
+    Case("sources", "jseg --sources a", "すもももも\n", SUMOMO),
+    Case("a path with a slash after it", "jseg --sources ./a/", "すもももも\n", SUMOMO),
+    Case("a user", "jseg -d sys.img -u user.img", "もも\n", "もも\t名詞,ユーザ\nEOS\n"),
+    Case("two users", "jseg -d sys.img -u user.img -u second.img", "もも\n", "もも\t名詞,ユーザ\nEOS\n"),
+    Case(
         "in the other order",
         "jseg -u second.img -d sys.img -u user.img",
         "もも\n",
@@ -25,7 +27,7 @@ THREE = {
     "a/B.csv": b"a,1,1,10,first\n",
     "a/é.csv": b"a,1,1,10,third\n",
 }
-NOT_READ = {
+NOT_READ: Files = {
     "a/dicrc": b"x",
     "a/lexicon.csv.bak": b"x",
     "a/left-id.def": b"x",
@@ -33,20 +35,20 @@ NOT_READ = {
     "a/folder": {},
 }
 DIRECTORIES = [
-    Run("no .csv", "jseg --sources a", "も\n", "も\t未知\nEOS\n", files=NO_LEXICON),
-    Run("in byte order of the names", "jseg --sources a", "a\n", "a\tfirst\nEOS\n", files=THREE),
-    Run(
+    Case("no .csv", "jseg --sources a", "も\n", "も\t未知\nEOS\n", files=NO_LEXICON),
+    Case("in byte order of the names", "jseg --sources a", "a\n", "a\tfirst\nEOS\n", files=THREE),
+    Case(
         "a name of .csv alone",
         "jseg --sources a",
         "a\n",
         "a\tX\nEOS\n",
         files={"a/.csv": b"a,1,1,10,X\n"},
     ),
-    Run("files that are not read", "jseg --sources a", "すもももも\n", SUMOMO, files=NOT_READ),
+    Case("files that are not read", "jseg --sources a", "すもももも\n", SUMOMO, files=NOT_READ),
 ]
 
-# Sources that are compiled. What was compiled shows in how a text is cut.
-CUT = r"jseg -d new.img -F '%m %H;' -E '%pc\n'"
+# Sources that are compiled. The segmentation of a text shows what was compiled.
+SEGMENT = r"jseg -d new.img -F '%m %H;' -E '%pc\n'"
 OTHERS = {
     "matrix": MATRIX.replace(b"0 1 10", b"0 1 11"),
     "char": CHARS + b"0x3000 SPACE\n",
@@ -62,10 +64,10 @@ OTHERS = {
 ALL = f"{SYSTEM} a/lexicon.csv"
 WITH = SYSTEM.replace(" a/", "=a/").replace(" new", "=new")
 COMPILED = [
-    # (what, words, text, what dictc prints, what jseg prints by the new image)
+    # (what, command, text, output of dictc, output of jseg with the new image)
     ("the sample", ALL, "すもももも", "3 entries, 0 skipped", "すもも 名詞,すもも;もも 名詞,もも;152"),
     (
-        "options behind",
+        "options after operands",
         f"dictc system a/lexicon.csv {DEFINITIONS} --out new.img",
         "も",
         "3 entries, 0 skipped",
@@ -107,19 +109,20 @@ USERS = [
 ]
 
 
-def compiled(what, words, text, line, cut, by=CUT):
-    return Run(
+def compiled(what: str, command: str, text: str, line: str, out: str, by: str = SEGMENT) -> Case:
+    """Returns a run of dictc, and then one of jseg with the new image."""
+    return Case(
         f"compiled: {what}",
-        words,
+        command,
         f"{text}\n",
-        f"{line}\n{cut}\n",
+        f"{line}\n{out}\n",
         files=OTHERS,
-        left={"new.img": ANY},
-        then=by,
+        changes={"new.img": ANY},
+        second=by,
     )
 
 
-# The options that say how words are cut and printed.
+# The options of segmentation and output.
 LONG = 1_048_576
 OPTIONS = [
     # (options, text, output)
@@ -156,20 +159,20 @@ OPTIONS = [
 ]
 
 
-def with_options(options, text, out):
-    """By the sample, by an image and by sources."""
+def with_options(options: str, text: str, out: str) -> Iterator[Case]:
+    """Yields the runs with the sample, with an image and with sources."""
     for by in ("--sample", "-d sys.img", "--sources a"):
-        yield Run(f"{options} {by}, {text[:30]}", f"jseg {by} {options}", f"{text}\n", out)
+        yield Case(f"{options} {by}, {text[:30]}", f"jseg {by} {options}", f"{text}\n", out)
 
 
 TEXTS = [
-    Run("no text", "jseg --sample"),
-    Run("an empty line", "jseg --sample", "\n", "EOS\n"),
-    Run("blanks alone", "jseg --sample", "   \n", "EOS\n"),
-    Run("a line without its end", "jseg --sample", "も\nも", MO + MO),
-    Run("a carriage return", "jseg --sample -O wakati", "も\r\n", "も \r \n"),
-    Run("a character behind U+FFFF", "jseg --sample -O wakati", "𠮷野\n", "𠮷 野 \n"),
-    Run(
+    Case("no text", "jseg --sample"),
+    Case("an empty line", "jseg --sample", "\n", "EOS\n"),
+    Case("blanks alone", "jseg --sample", "   \n", "EOS\n"),
+    Case("a line without its end", "jseg --sample", "も\nも", MO + MO),
+    Case("a carriage return", "jseg --sample -O wakati", "も\r\n", "も \r \n"),
+    Case("a character after U+FFFF", "jseg --sample -O wakati", "𠮷野\n", "𠮷 野 \n"),
+    Case(
         "not UTF-8",
         "jseg --sample",
         b"\xe3\x82\x82\n\xff\n\xe3\x82\x82\n",
@@ -177,7 +180,7 @@ TEXTS = [
         "line 2: G3 NotUtf8",
         1,
     ),
-    Run(
+    Case(
         "not UTF-8 at the end",
         "jseg --sample",
         b"\xe3\x82\x82\n\xe3\x82",
@@ -185,7 +188,7 @@ TEXTS = [
         "line 2: G3 NotUtf8",
         1,
     ),
-    Run(
+    Case(
         "a line that is too long",
         "jseg --sample",
         "も\n" + "z" * (LONG + 1),
@@ -193,7 +196,7 @@ TEXTS = [
         "line 2: G4 TooLong",
         1,
     ),
-    Run(
+    Case(
         "too long before not UTF-8",
         "jseg --sample",
         b"\xff" + b"z" * LONG,
@@ -203,7 +206,7 @@ TEXTS = [
     ),
 ]
 
-# (options, code, name and byte)
+# (options, error)
 FORMATS = [
     (r"-F 'a\'", "P1 BadEscape 1"),
     (r"-F '\q'", "P1 BadEscape 0"),
@@ -221,16 +224,16 @@ FORMATS = [
     (r"-E '\' -B ' \q'", "P1 BadEscape 1"),
 ]
 
-ROWS = [
+CASES = [
     *DICTIONARIES,
     *DIRECTORIES,
     *(compiled(*row) for row in COMPILED),
-    *(compiled(*row, by=CUT.replace("new.img", "sys.img -u new.img")) for row in USERS),
+    *(compiled(*row, by=SEGMENT.replace("new.img", "sys.img -u new.img")) for row in USERS),
     *(run for row in OPTIONS for run in with_options(*row)),
     *TEXTS,
     *(
-        Run(f"{options}: {fault}", f"jseg --sample {options}", "も\n", err=fault, status=2)
+        Case(f"{options}: {fault}", f"jseg --sample {options}", "も\n", err=fault, status=2)
         for options, fault in FORMATS
     ),
-    Run("a format before an image", "jseg -d none.img -F %q", err="P2 BadItem 0", status=2),
+    Case("a format before an image", "jseg -d none.img -F %q", err="P2 BadItem 0", status=2),
 ]

@@ -1,7 +1,9 @@
 # shellcheck shell=bash
-# Read by an interactive bash, whose key ^A writes the line as it stands to the file $ASKED then, and ends the shell.
+# Sourced by an interactive bash. Its key ^A writes the line, as completed so far, to the file
+# $RESULT, and ends the shell.
 PS1=
 bind 'set bell-style none'
 # shellcheck disable=SC2016
-bind -x '"\C-a": printf %s "$READLINE_LINE" > "$ASKED"; exit'
+bind -x '"\C-a": printf %s "$READLINE_LINE" > "$RESULT"; exit'
+# shellcheck source=/dev/null
 . "$COMPLETIONS/kumquatsieve.bash"

@@ -1,35 +1,35 @@
-# Read by an interactive zsh, whose key ^X completes the line then, writes what was found to the file $ASKED, a word a line, and ends the shell. Its key
-# ^A writes the line as it stands.
+# Sourced by an interactive zsh. Its key ^X completes the line, writes the completions to the file
+# $RESULT, one a line, and ends the shell. Its key ^A writes the line as completed so far.
 PS1=
 unsetopt beep
 fpath=($COMPLETIONS $fpath)
 autoload -Uz compinit
 compinit -u
-typeset -ga asked
+typeset -ga completions
 
-# What is added is noted. A call that only fills arrays adds nothing.
+# Collects the completions. A call that only fills arrays adds none.
 compadd() {
   local -a found
   if [[ " ${@[1,(i)(-|--)]} " != *' '-[OAD]' '* ]]; then
     builtin compadd -O found "$@"
-    asked+=($found)
+    completions+=($found)
   fi
   builtin compadd "$@"
 }
 
-ask() {
-  asked=()
+write_completions() {
+  completions=()
   _main_complete
-  print -rl -- $asked > $ASKED
+  print -rl -- $completions > $RESULT
   exit
 }
 
-show() {
-  print -rn -- $BUFFER > $ASKED
+write_line() {
+  print -rn -- $BUFFER > $RESULT
   exit
 }
 
-zle -C ask complete-word ask
-zle -N show
-bindkey '^X' ask
-bindkey '^A' show
+zle -C write_completions complete-word write_completions
+zle -N write_line
+bindkey '^X' write_completions
+bindkey '^A' write_line

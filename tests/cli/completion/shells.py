@@ -1,54 +1,63 @@
-"""What bash and zsh complete by the files of this folder: each is asked itself, in a folder that has a file and a folder."""
+"""Asks bash and zsh what they complete with the files of completions/.
+
+The shells run in a directory that has one file and one directory.
+"""
 import os
 import pty
 import subprocess
 import sys
 from pathlib import Path
+from typing import Dict, Sequence, Set
+
+from support.running import TOP
 
 HERE = Path(__file__).resolve().parent
+COMPLETIONS = TOP / "completions"
 FILE, FOLDER = "a-file", "a-folder"
-# What a function asks readline for, which is not there, is noted, with whether it has found anything itself.
-OF_BASH = r"""
+# Calls the function that completes a command line. It calls `compopt`, which only readline has; its
+# options are printed after the completions.
+COMPLETE_BY_BASH = r"""
 . "$1"
 shift
-asked=()
-compopt() { asked+=("$2"); }
+options=()
+compopt() { options+=("$2"); }
 COMP_WORDS=("$@")
 COMP_CWORD=$(($# - 1))
 function=$(complete -p "${1##*/}") && function=${function##*-F } && ${function%% *}
-printf '%s\n' "${COMPREPLY[@]}" "compopt ${asked[*]}"
+printf '%s\n' "${COMPREPLY[@]}" "compopt ${options[*]}"
 """
-# What readline adds then: files or folders where nothing was found, or folders to what was.
-WHERE_NOTHING = {"default": {FILE, FOLDER}, "dirnames": {FOLDER}}
+# What readline adds by these options: to nothing that was found, and to all.
+IF_NOTHING_FOUND = {"default": {FILE, FOLDER}, "dirnames": {FOLDER}}
 ALWAYS = {"plusdirs": {FOLDER}}
-# The shells as they read what is typed, without files of the user's own.
+# The shells, without the user's own startup files.
 INTERACTIVE = {"bash": ["bash", "--norc", "--noprofile", "-i"], "zsh": ["zsh", "-f", "-i"]}
 
 
-def surroundings():
-    """The environment without the folder of the user's own images."""
+def environment() -> Dict[str, str]:
+    """Returns the environment without the directory of the user's images."""
     return {name: value for name, value in os.environ.items() if name != "XDG_DATA_HOME"}
 
 
-def of_bash(words, folder):
-    """What bash completes after these words, of which the last one has begun."""
-    asked = ["bash", "--norc", "-c", OF_BASH, "bash", HERE / "kumquatsieve.bash", *words]
+def complete_by_bash(words: Sequence[str], folder: Path) -> Set[str]:
+    """Returns what bash completes the last of `words` to."""
+    script = COMPLETIONS / "kumquatsieve.bash"
     done = subprocess.run(
-        asked,
+        ["bash", "--norc", "-c", COMPLETE_BY_BASH, "bash", script, *words],
         capture_output=True,
         text=True,
         cwd=folder,
-        env={**surroundings(), "HOME": str(folder.parent)},
+        env={**environment(), "HOME": str(folder.parent)},
     )
     if done.returncode != 0 or done.stderr:
         sys.exit(f"bash can't complete {' '.join(words)}: {done.stderr}")
-    *found, noted = filter(None, done.stdout.split("\n"))
-    added = ALWAYS if found else {**ALWAYS, **WHERE_NOTHING}
-    return set(found).union(*(added.get(word, ()) for word in noted.split()[1:]))
+    *found, options = filter(None, done.stdout.split("\n"))
+    added = ALWAYS if found else {**ALWAYS, **IF_NOTHING_FOUND}
+    nothing: Set[str] = set()
+    return set(found).union(*(added.get(option, nothing) for option in options.split()[1:]))
 
 
-def has_terminals():
-    """Whether the machine gives a terminal to a program that asks for one."""
+def has_terminals() -> bool:
+    """Returns whether the machine has a terminal for a program that needs one."""
     try:
         for end in pty.openpty():
             os.close(end)
@@ -57,43 +66,43 @@ def has_terminals():
     return True
 
 
-def of_zsh(words, folder):
-    """What zsh completes after these words, of which the last one has begun."""
-    return set(filter(None, typed("zsh", " ".join(words) + "\x18", folder).split("\n")))
+def complete_by_zsh(words: Sequence[str], folder: Path) -> Set[str]:
+    """Returns what zsh completes the last of `words` to."""
+    return set(filter(None, result_of_keys("zsh", " ".join(words) + "\x18", folder).split("\n")))
 
 
-def line_after_tab(shell, line, folder):
-    """What stands on the line of a shell after a line was typed and its last word completed."""
-    return typed(shell, f"{line}\t\x01", folder)
+def line_after_tab(shell: str, line: str, folder: Path) -> str:
+    """Returns the command line of a shell after `line` and TAB were typed."""
+    return result_of_keys(shell, f"{line}\t\x01", folder)
 
 
-def typed(shell, keys, folder):
-    """What a shell on a terminal, in which its file of this folder was read, writes to the file $ASKED by these keys."""
-    answer = folder.parent / "asked"
+def result_of_keys(shell: str, keys: str, folder: Path) -> str:
+    """Types keys into a shell on a terminal, and returns what it writes to the file $RESULT."""
+    result = folder.parent / "result"
     process, terminal = pty.fork()
     if process == 0:
         os.chdir(folder)
-        place = {
-            "ASKED": str(answer),
-            "COMPLETIONS": str(HERE),
+        variables = {
+            "RESULT": str(result),
+            "COMPLETIONS": str(COMPLETIONS),
             "HOME": str(folder.parent),
             "INPUTRC": "/dev/null",
             "TERM": "dumb",
         }
-        os.execvpe(shell, INTERACTIVE[shell], {**surroundings(), **place})
+        os.execvpe(shell, INTERACTIVE[shell], {**environment(), **variables})
     os.write(terminal, f". {HERE}/interactive.{shell}\n{keys}".encode())
-    printed = printed_on(terminal)
+    printed = read_terminal(terminal)
     os.waitpid(process, 0)
     os.close(terminal)
-    if not answer.exists():
+    if not result.exists():
         sys.exit(f"{shell} can't complete {keys!r}: {printed.decode(errors='replace')}")
-    written = answer.read_text()
-    answer.unlink()
+    written = result.read_text()
+    result.unlink()
     return written
 
 
-def printed_on(terminal):
-    """What is printed on a terminal until its program ends."""
+def read_terminal(terminal: int) -> bytes:
+    """Returns what is printed on a terminal until its program ends."""
     printed = b""
     try:
         while more := os.read(terminal, 4096):
