@@ -1,11 +1,13 @@
-"""What kumquatsieve-cut is asked by its command line, beside what jseg is: rows of words, the status, and how standard error begins."""
+"""Command lines of pjseg: those that are rejected, --version, and the list of options."""
 import re
 import shlex
 import subprocess
+from pathlib import Path
+from typing import Iterator, Set
 
 NAME = "kumquatsieve-cut"
 WRONG = [
-    # (words, how the text begins after the program's name)
+    # (arguments, how the message starts after the program's name)
     ("", "-d IMG has to be given"),
     ("-j", "a value is required for '-j <N>'"),
     ("-j 0", "invalid value '0' for '-j <N>': 0 is not in 1..=1000"),
@@ -63,7 +65,9 @@ WRONG = [
     ("-M '\x9b1'", r"invalid value '\u{9b}1' for '-M <N>': it is no number"),
     (
         "-d -x.img",
-        "a value is required for '-d <IMG>' but none was supplied\n\n  tip: for the file '-x.img' write './-x.img'",
+        "a value is required for '-d <IMG>' but none was supplied"
+        "\n\n"
+        "  tip: for the file '-x.img' write './-x.img'",
     ),
     (
         "-u '-\x07'",
@@ -77,30 +81,29 @@ WRONG = [
 ]
 
 
-def faults(program, page):
-    """What is not as it should be of a wrong command line, of --version, and of the options that --help and the manual page list."""
-    for words, begin in WRONG:
-        done = subprocess.run([program, *shlex.split(words)], capture_output=True, text=True)
-        if done.returncode != 2 or done.stdout or not done.stderr.startswith(f"{NAME}: {begin}"):
-            yield f"{words!r}: status {done.returncode}, {done.stderr!r}"
+def failures(program: Path, page: Path) -> Iterator[str]:
+    """Yields what is wrong with rejected command lines, with --version, and with the options that
+    --help and the manual page list."""
+    for arguments, start in WRONG:
+        command = [str(program), *shlex.split(arguments)]
+        done = subprocess.run(command, capture_output=True, text=True)
+        if done.returncode != 2 or done.stdout or not done.stderr.startswith(f"{NAME}: {start}"):
+            yield f"{arguments!r}: status {done.returncode}, {done.stderr!r}"
     version = subprocess.run([program, "--version"], capture_output=True, text=True)
     if not re.fullmatch(rf"{NAME} [0-9.]+\nimage layouts read: 1, 2, 3\n", version.stdout):
         yield f"--version: {version.stdout!r}"
-    helped, told = options_of_help(program), options_of_page(page)
-    if helped != told:
-        yield f"--help lists {sorted(helped)}, and the manual page {sorted(told)}"
+    in_help, in_page = options_of_help(program), options_of_page(page)
+    if in_help != in_page:
+        yield f"--help lists {sorted(in_help)}, and the manual page {sorted(in_page)}"
 
 
-def options_of_help(program):
+def options_of_help(program: Path) -> Set[str]:
     text = subprocess.run([program, "--help"], capture_output=True, text=True, check=True).stdout
-    return {
-        name
-        for names in re.findall(r"^ +(-[\w-]+(?:, -[\w-]+)?)", text, re.M)
-        for name in names.split(", ")
-    }
+    found = re.findall(r"^ +(-[\w-]+(?:, -[\w-]+)?)", text, re.M)
+    return {name for names in found for name in names.split(", ")}
 
 
-def options_of_page(page):
+def options_of_page(page: Path) -> Set[str]:
     lines = (
         line.removeprefix(".It Fl ")
         for line in page.read_text().splitlines()

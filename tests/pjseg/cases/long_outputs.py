@@ -1,4 +1,4 @@
-"""Measures the memory of kumquatsieve-cut, also over lines that print much more than they are."""
+"""Measures the memory of pjseg, also over lines whose output is much longer than they are."""
 
 import resource
 import subprocess
@@ -11,22 +11,22 @@ from typing import Iterator, NamedTuple, Sequence
 LEXICON = f"あ,1,1,-10000,{'x' * 4000}\nい,1,1,-10000,short\n"
 LINE_LONG, LINE_SHORT = "あ\n".encode(), "い\n".encode()
 PIECE = 1 << 20
-# Bytes of address space. What the first piece of TEXT prints alone is more.
+# Bytes of address space. The output of the first piece of TEXT alone is longer.
 LIMIT = 1_000_000_000
 SECONDS = 300
 
 
 def mixed(size: int, each: int) -> bytes:
-    """About so many bytes of lines, of which one in `each` has the long feature."""
+    """Returns lines of about `size` bytes, of which one in `each` has the long feature."""
     return (LINE_LONG + LINE_SHORT * (each - 1)) * (size // (each * len(LINE_LONG)))
 
 
 TEXT = LINE_LONG * (PIECE // len(LINE_LONG) + 1) + mixed(3 * PIECE, 8)
-# For a program that is slowed down. A piece prints more than what a thread keeps of it.
+# For a program that is slowed down. The output of a piece is longer than what a thread keeps.
 SHORTER = mixed(4 * PIECE, 30)
 
-# What a thread holds: a piece of the text and a read, what it keeps of the output, and about what a
-# group of lines prints. The rest is that of the program and of a small dictionary.
+# The bytes of a thread: a piece of the text and a read, what it keeps of the output, and about the
+# output of a group of lines. The rest is the program and a small dictionary.
 OF_A_THREAD = PIECE + (1 << 16) + (16 << 20) + (4 << 20)
 OF_THE_REST = 30_000_000
 PEAK = """
@@ -37,59 +37,61 @@ print(resource.getrusage(resource.RUSAGE_CHILDREN).ru_maxrss)
 
 
 def most_memory(threads: int) -> int:
-    """How many kB of memory a run holds at most."""
+    """Returns the greatest memory that a run may have, in kB."""
     return (threads * OF_A_THREAD + OF_THE_REST) // 1024
 
 
 def peak(words: Sequence[object], text: Path) -> int:
-    """The most memory that a run holds, in kB.
+    """Returns the greatest memory of a run, in kB.
 
-    A small process begins it: the greatest one of a process that forks counts for what it runs."""
+    A small process starts it, because the memory of a process that forks counts for its child.
+    """
     with open(text, "rb") as reading:
-        asked = [sys.executable, "-I", "-c", PEAK, *map(str, words)]
-        return int(subprocess.run(asked, stdin=reading, stdout=subprocess.PIPE, check=True).stdout)
+        command = [sys.executable, "-I", "-c", PEAK, *map(str, words)]
+        return int(
+            subprocess.run(command, stdin=reading, stdout=subprocess.PIPE, check=True).stdout
+        )
 
 
 class Printed(NamedTuple):
-    """What a run prints, in short, its status and its errors."""
+    """The length and checksum of a run's output, its status, and its standard error."""
 
     length: int
     checksum: int
     status: int
-    told: bytes
+    errors: bytes
 
 
-def limited() -> None:
+def limit_memory() -> None:
     resource.setrlimit(resource.RLIMIT_AS, (LIMIT, LIMIT))
 
 
 def printed(words: Sequence[object], text: Path, is_limited: bool = False) -> Printed:
-    """Runs a program over a text; its output is not kept."""
+    """Runs a program over a text. Its output is not kept."""
     length = checksum = 0
-    begin = limited if is_limited else None
     with open(text, "rb") as reading, subprocess.Popen(
         [str(word) for word in words],
         stdin=reading,
         stdout=subprocess.PIPE,
         stderr=subprocess.PIPE,
-        preexec_fn=begin,
+        preexec_fn=limit_memory if is_limited else None,
     ) as process:
         assert process.stdout and process.stderr
         while data := process.stdout.read(1 << 20):
             length += len(data)
             checksum = zlib.crc32(data, checksum)
-        told = process.stderr.read()
+        errors = process.stderr.read()
         status = process.wait(SECONDS)
-    return Printed(length, checksum, status, told)
+    return Printed(length, checksum, status, errors)
 
 
-def faults(cut: Path, jseg: Path, image: Path, text: Path) -> Iterator[str]:
-    """What is not as jseg prints it, with one thread and with several under a limit on memory."""
+def failures(cut: Path, jseg: Path, image: Path, text: Path) -> Iterator[str]:
+    """Yields what differs from jseg, with one thread and with several, under a limit on memory."""
     text.write_bytes(TEXT)
-    wanted = printed([jseg, "-d", image], text)
-    if wanted.status != 0 or wanted.length < LIMIT:
-        yield f"jseg prints too little: {wanted}"
-    for job in (1, 4):
-        got = printed([cut, "-d", image, "-j", job], text, is_limited=True)
-        if got != wanted:
-            yield f"long outputs, {job} threads: {got}, and of jseg {wanted}"
+    expected = printed([jseg, "-d", image], text)
+    if expected.status != 0 or expected.length < LIMIT:
+        yield f"jseg prints too little: {expected}"
+    for jobs in (1, 4):
+        found = printed([cut, "-d", image, "-j", jobs], text, is_limited=True)
+        if found != expected:
+            yield f"long outputs, {jobs} threads: {found}, and jseg: {expected}"
