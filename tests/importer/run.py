@@ -1,17 +1,18 @@
 #!/usr/bin/env python3
-"""Runs kumquatsieve-import by rows (cases): what it prints and rejects, sources and user
-lexicons in each encoding, the names of fields, where images go that are named by their
-dictionary, who may read what is made, the system's reasons, imports that are killed or run at
-once, tests of whole images and their records, what stands on a terminal, and faults from outside
-at each of its steps, of the import of a folder and of a user's lexicons. What it prints and its
-status have to be as the row says, and the image is that of the same sources in UTF-8. After a
-fault from outside the old image is there, or the new one, and no other file is left.
+"""Runs kumquatsieve-import by test cases: what it prints and rejects, and what it writes.
 
-Needs: crates/dictc/out/dictc and crates/jseg/out/jseg, which `rt run` in their folders leaves;
-where they are not there the status is 2. localedef makes the locales in which paths are given
-(Debian: locales); without it only C is tried. Rows that need another user or a file system of
-their own are left out where this process may not have them. Without strace, or where it may not
-be used, the table of injected faults is left out, and the status is 77 if all else is well.
+The cases are about sources and user dictionaries in each encoding, the names of fields, image
+directories, file modes, the system's errors, imports that are killed or run at once, tests of
+images and their records, terminals, and errors from outside at each step of an import. What is
+printed and the status have to be as the case says, and the image has to be that of the same sources
+in UTF-8. After an error from outside, the old image is there, or the new one, and no other file is
+left.
+
+Needs crates/dictc/out/dictc and crates/jseg/out/jseg, which `rt run` in their directories builds;
+if one is missing the status is 2. localedef makes locales (Debian: locales); without it only C is
+tested. Cases that need another user or a file system of their own are left out if this process may
+not have them. Without strace, or where it may not be used, the table of injected errors is left
+out, and the status is 77 if all else is well.
 """
 import os
 import resource
@@ -19,6 +20,7 @@ import shutil
 import sys
 import tempfile
 from pathlib import Path
+from typing import Any, Iterator, List, Optional, Protocol, Sequence, Tuple
 
 sys.dont_write_bytecode = True
 sys.path.insert(0, str(Path(__file__).resolve().parents[1]))
@@ -30,16 +32,32 @@ from importer.cases import (  # noqa: E402
     injection,
     installing,
     locales,
+    package,
     progress,
     records,
+    rejections,
     reports,
     system_errors,
     user_dictionaries,
 )
 from importer.cases.common import PROGRAMS, install  # noqa: E402
+from support.running import LEFT_OUT, leave_out  # noqa: E402
 
-TOPICS = (
+
+class Subject(Protocol):
+    """A module of cases. Each has a type of cases of its own, which only it uses."""
+
+    @property
+    def CASES(self) -> Sequence[Any]:
+        ...
+
+    def failures(self, case: Any, programs: Path, work: Path) -> Iterator[str]:
+        ...
+
+
+SUBJECTS: Sequence[Subject] = (
     reports,
+    rejections,
     encodings,
     fields,
     image_dirs,
@@ -50,82 +68,81 @@ TOPICS = (
     records,
     progress,
     user_dictionaries,
+    package,
 )
 
 
-def faults_of_rows(topic, programs, folder):
-    for row in topic.ROWS:
+def case_failures(subject: Subject, programs: Path, folder: Path) -> Iterator[str]:
+    """Runs the cases of a subject, each in a new directory, and yields what differs from them."""
+    for case in subject.CASES:
         work = folder / "work"
-        yield from (f"{row.name}: {fault}" for fault in topic.wrong(row, programs, work))
+        yield from (f"{case.name}: {failure}" for failure in subject.failures(case, programs, work))
         shutil.rmtree(work)
 
 
-def faults_from_outside(kind, programs, folder):
+def outside_failures(kind: injection.Kind, programs: Path, folder: Path) -> Iterator[str]:
+    """Yields what is wrong after errors from outside that need no strace."""
     for number in injection.SIGNALS:
-        yield from (
-            f"{number.name} while dictc writes: {fault}"
-            for fault in injection.wrong_by_signal(number, kind, programs, folder)
-        )
+        for failure in injection.check_signal(number, kind, programs, folder):
+            yield f"{number.name} while dictc writes: {failure}"
+    yield from output_failures(kind, programs, folder)
+    for failure in injection.check_closed_streams(kind, programs, folder):
+        yield f"standard error closed: {failure}"
+    for failure in injection.check_stop(kind, programs, folder):
+        yield f"stopped while a pipe is full: {failure}"
+    for megabytes in injection.MEGABYTES:
+        for failure in injection.check_memory(megabytes, kind, programs, folder):
+            yield f"{megabytes} MB: {failure}"
+
+
+def output_failures(kind: injection.Kind, programs: Path, folder: Path) -> Iterator[str]:
+    """Yields what is wrong after errors of standard output."""
     reading, writing = os.pipe()
     os.close(reading)
-    with open("/dev/full", "wb") as full, open(writing, "wb") as closed:
-        for name, target in (("full", full), ("read by nobody", closed), ("closed", None)):
-            yield from (
-                f"standard output, {name}: {fault}"
-                for fault in injection.wrong_by_output(name, target, kind, programs, folder)
-            )
-    for fault in injection.wrong_without_error(kind, programs, folder):
-        yield f"standard error closed: {fault}"
-    yield from (
-        f"stopped while a pipe is full: {fault}"
-        for fault in injection.wrong_by_stop(kind, programs, folder)
-    )
-    for megabytes in injection.MEGABYTES:
-        yield from (
-            f"{megabytes} MB: {fault}"
-            for fault in injection.wrong_by_memory(megabytes, kind, programs, folder)
-        )
+    with open("/dev/full", "wb") as full, open(writing, "wb") as unread:
+        for name, target in (("full", full), ("unread", unread), ("closed", None)):
+            for failure in injection.check_output(name, target, kind, programs, folder):
+                yield f"standard output, {name}: {failure}"
 
 
-def injected_faults(programs, folder):
-    """How many faults were injected by strace into each kind of import, None where it can't be used, and what is wrong after any fault."""
-    counts, faults = [], []
+def check_outside(programs: Path, folder: Path) -> Tuple[List[Optional[int]], List[str]]:
+    """Returns how many errors strace injected into each kind of import, and all failures.
+
+    The number is None if strace can't be used.
+    """
+    counts: List[Optional[int]] = []
+    failures: List[str] = []
     for kind in injection.kinds(programs, folder):
         own = folder / kind.name
         own.mkdir()
-        found = list(faults_from_outside(kind, programs, own))
-        count, wrong = injection.wrong_by_table(kind, programs, own)
+        found = list(outside_failures(kind, programs, own))
+        count, injected = injection.check_table(kind, programs, own)
         counts.append(count)
-        faults += [f"{kind.name}: {fault}" for fault in found + wrong]
-    return counts, faults
+        failures += [f"{kind.name}: {failure}" for failure in found + injected]
+    return counts, failures
 
 
-def main():
+def main() -> int:
     missing = [str(path) for path in PROGRAMS if not path.exists()]
     if missing:
-        print(f"imports: {' and '.join(missing)} not built: nothing was run", file=sys.stderr)
+        print(f"importer: {' and '.join(missing)} not built: nothing was run", file=sys.stderr)
         return 2
-    # SIGQUIT would leave a core file where the system is told to.
+    # SIGQUIT would write a core file.
     resource.setrlimit(resource.RLIMIT_CORE, (0, 0))
-    # What others may write gets no record.
+    # An image that others may write gets no record.
     os.umask(0o022)
     with tempfile.TemporaryDirectory() as name:
         folder = Path(name)
         programs = install(folder)
-        faults = [fault for topic in TOPICS for fault in faults_of_rows(topic, programs, folder)]
-        counts, wrong = injected_faults(programs, folder)
-    for fault in faults + wrong:
-        print(fault, file=sys.stderr)
-    rows = sum(len(topic.ROWS) for topic in TOPICS)
-    print(
-        f"{rows} imports, {sum(filter(None, counts))} injected faults, {len(faults + wrong)} faults"
-    )
+        failures = [failure for one in SUBJECTS for failure in case_failures(one, programs, folder)]
+        counts, more = check_outside(programs, folder)
+    failures += more
+    print(*failures, sep="\n", end="\n" if failures else "", file=sys.stderr)
+    cases, injected = sum(len(one.CASES) for one in SUBJECTS), sum(filter(None, counts))
+    print(f"importer: {cases} cases, {injected} injected errors, {len(failures)} failures")
     if None in counts:
-        print(
-            "imports: strace is not there or may not be used: injected faults are left out",
-            file=sys.stderr,
-        )
-    return 1 if faults or wrong else 77 if None in counts else 0
+        leave_out("injected errors: strace is missing or may not be used")
+    return 1 if failures else LEFT_OUT if None in counts else 0
 
 
 if __name__ == "__main__":

@@ -1,40 +1,44 @@
-"""Who may read what an import makes, where the umask lets nobody else read it, or a group: all users, where it stands in the system's folder."""
+"""Who may read what an import writes, with a umask that lets nobody else read it, or a group only.
+
+All users may read what is written to the system's image directory.
+"""
 import os
 import shutil
 import stat
 import subprocess
-from typing import NamedTuple
+from pathlib import Path
+from typing import Iterator, NamedTuple, Optional, Tuple
 
-from .common import FILES, compiled, lay
+from .common import FILES, NAME, compiled, lay
 
 SYSTEM = "PREFIX/var/lib/kumquatsieve"
 SETTINGS = {"dicrc": b"; f[0]: pos\n; f[1]: reading\n", "pos-id.def": "名詞 1\n".encode()}
 ENDINGS = ("img", "dicrc", "pos-id.def", "fields")
 
 
-class Row(NamedTuple):
-    """A run by words in which PREFIX is that of the programs, with this umask, and what is made, each file with this mode."""
+class Case(NamedTuple):
+    """Arguments, in which PREFIX is that of the programs; a umask; and files with their mode."""
 
     name: str
-    words: tuple
+    arguments: Tuple[str, ...]
     umask: int
-    made: tuple
+    made: Tuple[str, ...]
     mode: int
 
 
-def of_folder(name, image, umask, mode, to=None):
-    """An import of a folder, which leads to an image of another path where `image` is a link to that."""
+def of_folder(name: str, image: str, umask: int, mode: int, to: Optional[str] = None) -> Case:
+    """Returns an import of a directory. `to` is the image that is written if `image` is a link."""
     stem = (to or image).removesuffix(".img")
-    return Row(name, ("dic", image), umask, tuple(f"{stem}.{ending}" for ending in ENDINGS), mode)
+    return Case(name, ("dic", image), umask, tuple(f"{stem}.{ending}" for ending in ENDINGS), mode)
 
 
-def of_user(name, image, umask, mode):
-    return Row(
+def of_user(name: str, image: str, umask: int, mode: int) -> Case:
+    return Case(
         name, ("--user", "sys.img", "--out", image, "dic/lexicon.csv"), umask, (image,), mode
     )
 
 
-ROWS = [
+CASES = [
     of_folder("the system's folder, nobody else", f"{SYSTEM}/a.img", 0o077, 0o644),
     of_folder("the system's folder, a group", f"{SYSTEM}/a.img", 0o027, 0o644),
     of_folder("the system's folder, by a link", "link.img", 0o077, 0o644, to=f"{SYSTEM}/old.img"),
@@ -46,29 +50,29 @@ ROWS = [
 ]
 
 
-def wrong(row, programs, work):
-    """What a run does other than its row says."""
+def failures(case: Case, programs: Path, work: Path) -> Iterator[str]:
+    """Runs a case in the directory `work`, and yields what differs from it."""
     prefix = programs.parent
-    lay(work / "dic", {**FILES, **SETTINGS})
+    lay(str(work / "dic"), {**FILES, **SETTINGS})
     (work / "sys.img").write_bytes(compiled(programs, work / "system", FILES, ["lexicon.csv"]))
     system = prefix / "var" / "lib" / "kumquatsieve"
     system.mkdir(parents=True)
     (system / "old.img").write_bytes(b"old")
     (system / "old.img").chmod(0o644)
     (work / "link.img").symlink_to(system / "old.img")
-    words = [word.replace("PREFIX", str(prefix)) for word in row.words]
-    ran = subprocess.run(
-        [programs / "kumquatsieve-import", *words],
+    arguments = [word.replace("PREFIX", str(prefix)) for word in case.arguments]
+    done = subprocess.run(
+        [programs / NAME, *arguments],
         cwd=work,
         capture_output=True,
         text=True,
-        umask=row.umask,
+        umask=case.umask,
     )
-    if ran.returncode != 0:
-        yield f"tells {ran.stderr!r} with status {ran.returncode}"
-    for name in row.made:
+    if done.returncode != 0:
+        yield f"status {done.returncode}, {done.stderr!r}"
+    for name in case.made:
         path = os.path.join(work, name.replace("PREFIX", str(prefix)))
         mode = stat.S_IMODE(os.stat(path).st_mode) if os.path.exists(path) else None
-        if mode != row.mode:
+        if mode != case.mode:
             yield f"{name} has the mode {mode and oct(mode)}"
     shutil.rmtree(prefix / "var")

@@ -1,124 +1,126 @@
-"""Where an image goes that is named by its dictionary alone, and that jseg finds it there by its name."""
+"""Where an image goes that is named by its dictionary alone. jseg finds it there by its name."""
 import os
 import shutil
 import stat
 import subprocess
-from typing import NamedTuple
+from pathlib import Path
+from typing import Iterator, List, Mapping, NamedTuple, Optional, Sequence
 
-from .common import FILES, SAMPLE, lay
+from support.running import SAMPLE
 
-NOBODY = 65534
+from .common import FILES, NAME, NOBODY, lay
+
 WORDS = "すもも もも \nもも もも \n"
 SYSTEM = "PREFIX/var/lib/kumquatsieve"
 OWN = f"home: this user's own, since {SYSTEM} can't be written"
 ALL = "home: the system's, for all users"
 
 
-class Row(NamedTuple):
-    """The variables of a run, in which HERE is its folder; whether the system's folder may be written, is there, the folder of the image, and what is
-    said of it; where it is refused, what is told."""
+class Case(NamedTuple):
+    """A run. In its variables HERE is its directory. If it is rejected, `err` is the error."""
 
     name: str
-    variables: dict
+    variables: Mapping[str, str]
+    # Whether the system's directory can be written.
     is_open: bool
-    home: str
-    said: str = ""
+    # The directory of the image, and what is reported about it.
+    image_dir: str
+    message: str = ""
     err: str = ""
-    is_there: bool = True
+    # Whether the system's directory exists.
+    exists: bool = True
     umask: int = 0o077
 
 
 DATA, HOME = {"XDG_DATA_HOME": "HERE/data"}, {"HOME": "HERE/home"}
-ROWS = [
-    Row("the system's", {**DATA, **HOME}, True, SYSTEM, ALL),
-    Row("the system's, which is not there", {**DATA, **HOME}, True, SYSTEM, ALL, is_there=False),
-    Row("the system's, of who has no home", {}, True, SYSTEM, ALL),
-    Row("the user's data", {**DATA, **HOME}, False, "HERE/data/kumquatsieve", OWN),
-    Row("the user's home", HOME, False, "HERE/home/.local/share/kumquatsieve", OWN),
-    Row("the user's data, of a group", DATA, False, "HERE/data/kumquatsieve", OWN, umask=0o002),
-    Row(
+CASES = [
+    Case("the system's", {**DATA, **HOME}, True, SYSTEM, ALL),
+    Case("the system's, which is not there", {**DATA, **HOME}, True, SYSTEM, ALL, exists=False),
+    Case("the system's, of who has no home", {}, True, SYSTEM, ALL),
+    Case("the user's data", {**DATA, **HOME}, False, "HERE/data/kumquatsieve", OWN),
+    Case("the user's home", HOME, False, "HERE/home/.local/share/kumquatsieve", OWN),
+    Case("the user's data, of a group", DATA, False, "HERE/data/kumquatsieve", OWN, umask=0o002),
+    Case(
         "relative data",
         {"XDG_DATA_HOME": "data", **HOME},
         False,
         "HERE/home/.local/share/kumquatsieve",
         OWN,
     ),
-    Row("no home", {"HOME": "home"}, False, "", err=f"{SYSTEM}: Permission denied"),
+    Case("no home", {"HOME": "home"}, False, "", err=f"{SYSTEM}: Permission denied"),
 ]
 
 
-def in_place(text, programs, work):
+def located(text: str, programs: Path, work: Path) -> str:
     return text.replace("PREFIX", str(programs.parent)).replace("HERE", str(work))
 
 
-def run(programs, work, row, words, text=""):
-    """Runs a program as who may not write the system's folder, where that is closed."""
-    user = NOBODY if os.geteuid() == 0 and not row.is_open else None
-    place = {
+def run(
+    programs: Path, work: Path, case: Case, command: Sequence[str], text: str = ""
+) -> "subprocess.CompletedProcess[str]":
+    """Runs a command as a user who may not write the system's directory, unless that is open."""
+    user = NOBODY if os.geteuid() == 0 and not case.is_open else None
+    environment = {
         "PATH": os.environ["PATH"],
-        **{name: in_place(value, programs, work) for name, value in row.variables.items()},
+        **{name: located(value, programs, work) for name, value in case.variables.items()},
     }
-    groups = None if user is None else []
+    groups: Optional[List[int]] = None if user is None else []
     return subprocess.run(
-        words,
+        command,
         cwd=work,
-        env=place,
+        env=environment,
         input=text,
         capture_output=True,
         text=True,
         user=user,
         group=user,
         extra_groups=groups,
-        umask=row.umask,
+        umask=case.umask,
     )
 
 
-def prepare(row, programs, work):
-    lay(work / "dic", FILES)
+def prepare(case: Case, programs: Path, work: Path) -> None:
+    lay(str(work / "dic"), FILES)
     work.parent.chmod(0o755)
     system = programs.parent / "var" / "lib" / "kumquatsieve"
-    if row.is_there:
+    if case.exists:
         system.mkdir(parents=True)
-        system.chmod(0o755 if row.is_open else 0o555)
+        system.chmod(0o755 if case.is_open else 0o555)
     for path in [work, *work.rglob("*")] if os.geteuid() == 0 else []:
         os.chown(path, NOBODY, NOBODY)
 
 
-def wrong(row, programs, work):
-    """What a run does other than its row says."""
-    prepare(row, programs, work)
-    ran = run(programs, work, row, [programs / "kumquatsieve-import", "dic"])
-    yield from differs(row, programs, work, ran)
+def failures(case: Case, programs: Path, work: Path) -> Iterator[str]:
+    """Runs a case in the directory `work`, and yields what differs from it."""
+    prepare(case, programs, work)
+    done = run(programs, work, case, [str(programs / NAME), "dic"])
+    if case.err:
+        expected = f"{NAME}: {located(case.err, programs, work)}\n"
+        if (done.stderr, done.returncode) != (expected, 3):
+            yield f"status {done.returncode}, {done.stderr!r}, expected 3, {expected!r}"
+    else:
+        yield from image_failures(case, programs, work, done)
     shutil.rmtree(programs.parent / "var", ignore_errors=True)
 
 
-def differs(row, programs, work, ran):
-    if row.err:
-        wanted = f"kumquatsieve-import: {in_place(row.err, programs, work)}\n"
-        if (ran.stderr, ran.returncode) != (wanted, 3):
-            yield f"tells {ran.stderr!r} with status {ran.returncode}, not {wanted!r} with 3"
+def image_failures(
+    case: Case, programs: Path, work: Path, done: "subprocess.CompletedProcess[str]"
+) -> Iterator[str]:
+    """Yields what is wrong with an import, and with the image that it installed."""
+    image_dir = located(case.image_dir, programs, work)
+    found = [line for line in done.stdout.splitlines() if line.startswith(("image: ", "home: "))]
+    message = located(case.message, programs, work)
+    is_reported = len(found) == 2 and found[0].startswith(f"image: {image_dir}/dic.img, ")
+    if done.returncode != 0 or not is_reported or found[1] != message:
+        yield f"status {done.returncode}, {done.stdout!r}, {done.stderr!r}, expected {image_dir}"
         return
-    home = in_place(row.home, programs, work)
-    said = [line for line in ran.stdout.splitlines() if line.startswith(("image: ", "home: "))]
-    if (
-        ran.returncode != 0
-        or len(said) != 2
-        or not said[0].startswith(f"image: {home}/dic.img, ")
-        or said[1] != in_place(row.said, programs, work)
-    ):
-        yield f"prints {ran.stdout!r} and tells {ran.stderr!r} with status {ran.returncode}, not that it is in {home}"
-        return
-    modes = [stat.S_IMODE(os.stat(path).st_mode) for path in (home, f"{home}/dic.img")]
-    if modes != [0o755, 0o644 if row.is_open or row.umask == 0o002 else 0o600]:
-        yield f"makes {home} and its image with modes {' and '.join(f'{mode:o}' for mode in modes)}"
-    if f"tested: {home}/dic.img\n" not in ran.stdout or not os.path.exists(f"{home}/dic.tested"):
-        yield f"prints {ran.stdout!r}, and leaves {os.listdir(home)}"
-    cut = run(
-        programs,
-        work,
-        row,
-        [programs / "jseg", "-d", "dic", "-O", "wakati"],
-        (SAMPLE / "text.txt").read_text(),
-    )
-    if cut.stdout != WORDS:
-        yield f"jseg -d dic prints {cut.stdout!r} and tells {cut.stderr!r}"
+    modes = [stat.S_IMODE(os.stat(path).st_mode) for path in (image_dir, f"{image_dir}/dic.img")]
+    if modes != [0o755, 0o644 if case.is_open or case.umask == 0o002 else 0o600]:
+        yield f"makes {image_dir} and its image with modes {' and '.join(map(oct, modes))}"
+    is_tested = f"tested: {image_dir}/dic.img\n" in done.stdout
+    if not is_tested or not os.path.exists(f"{image_dir}/dic.tested"):
+        yield f"prints {done.stdout!r}, and leaves {os.listdir(image_dir)}"
+    command = [str(programs / "jseg"), "-d", "dic", "-O", "wakati"]
+    segmented = run(programs, work, case, command, (SAMPLE / "text.txt").read_text())
+    if segmented.stdout != WORDS:
+        yield f"jseg -d dic prints {segmented.stdout!r}, {segmented.stderr!r}"

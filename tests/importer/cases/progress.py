@@ -1,5 +1,5 @@
-"""What stands on a terminal while an import runs: one line that goes on each second, and at the end
-the report, or a line that sums it up."""
+"""What a terminal shows during an import: a status line that is redrawn each second, and then the
+report, or a summary of it."""
 import fcntl
 import os
 import pty
@@ -10,11 +10,12 @@ import struct
 import subprocess
 import termios
 import unicodedata
-from typing import NamedTuple
+from pathlib import Path
+from typing import Iterator, List, NamedTuple, Optional, Tuple
 
-from .common import FILES, lay
+from .common import FILES, NAME, lay, without_numbers
 
-# A dictc that works only after somebody opened a pipe for it.
+# A dictc that starts to work only when a pipe is written to.
 SLOW = """#!/bin/sh
 read -r line < {pipe}
 exec {dictc} "$@"
@@ -22,7 +23,7 @@ exec {dictc} "$@"
 SHOWN = re.compile(r"\rkumquatsieve-import: (\d+) s: ([^\r\n]*)\x1b\[K")
 LONG = "辞書" * 20
 COLUMNS = 60
-# How long anything is waited for, in seconds, far above what it takes.
+# How long anything is waited for, in seconds. It takes much less.
 PATIENCE = 60
 REPORT = (
     f"sources: {LONG}",
@@ -33,29 +34,33 @@ REPORT = (
     "tested: new.img",
     "0 lines left out",
 )
-SUM = ("kumquatsieve-import: 0 s: new.img: 3 entries, 0 skipped, 0 bytes",)
+SUMMARY = ("kumquatsieve-import: 0 s: new.img: 3 entries, 0 skipped, 0 bytes",)
 
 
-class Row(NamedTuple):
-    """A run with standard error on a terminal, and what stands there at the end, numbers as 0."""
+class Case(NamedTuple):
+    """A run with standard error on a terminal."""
 
     name: str
-    words: tuple
-    is_report_there: bool
-    end: tuple
-    has_line: bool = True
+    arguments: Tuple[str, ...]
+    # Whether standard output is the terminal, too.
+    has_report: bool
+    # The lines that the terminal shows at the end, with 0 for numbers; none to compare nothing.
+    end: Tuple[str, ...]
+    has_status_line: bool = True
 
 
-ROWS = [
-    Row("all on the terminal", (LONG, "new.img"), True, REPORT),
-    Row("the report elsewhere", (LONG, "new.img"), False, SUM),
-    Row("with -v", ("-v", LONG, "new.img"), False, (), False),
+CASES = [
+    Case("all on the terminal", (LONG, "new.img"), True, REPORT),
+    Case("the report elsewhere", (LONG, "new.img"), False, SUMMARY),
+    Case("with -v", ("-v", LONG, "new.img"), False, (), False),
 ]
 
 
-def screen(text):
-    """The lines that stand on a terminal after it was written this, which has no other control
-    characters than these."""
+def screen(text: str) -> List[str]:
+    """Returns the lines that a terminal shows after `text` was written to it.
+
+    The text has no other control characters than those below.
+    """
     lines = [""]
     for part in re.findall(r"\x1b\[K|\r\n|\r|\n|[^\r\n\x1b]+", text):
         if part == "\r":
@@ -67,12 +72,12 @@ def screen(text):
     return lines
 
 
-def width(text):
+def width(text: str) -> int:
     return sum(2 if unicodedata.east_asian_width(character) in "WF" else 1 for character in text)
 
 
-def prepare(programs, work):
-    lay(work / LONG, FILES)
+def prepare(programs: Path, work: Path) -> None:
+    lay(str(work / LONG), FILES)
     pipe, dictc = work.parent / "pipe", programs / "dictc"
     for name in ("bin", "lib"):
         shutil.copytree(programs.parent / name, work.parent / "slow" / name)
@@ -80,8 +85,8 @@ def prepare(programs, work):
     (work.parent / "slow" / "bin" / "dictc").write_text(SLOW.format(pipe=pipe, dictc=dictc))
 
 
-def read_more(terminal):
-    """What the terminal was written next; None at its end, or where nothing comes."""
+def read_more(terminal: int) -> Optional[bytes]:
+    """Returns what is written to the terminal next; None at its end, or if nothing comes."""
     if not select.select([terminal], [], [], PATIENCE)[0]:
         return None
     try:
@@ -90,10 +95,12 @@ def read_more(terminal):
         return None
 
 
-def watched(row, child, terminal, pipe):
-    """All that the terminal was written. dictc goes on after the line was there with three numbers
-    of seconds."""
-    written, released = b"", not row.has_line
+def read_all(case: Case, child: "subprocess.Popen[bytes]", terminal: int, pipe: Path) -> str:
+    """Returns all that is written to the terminal.
+
+    dictc goes on after the status line has shown three numbers of seconds.
+    """
+    written, released = b"", not case.has_status_line
     if released:
         pipe.write_text("go\n")
     while (more := read_more(terminal)) is not None:
@@ -107,26 +114,28 @@ def watched(row, child, terminal, pipe):
     return written.decode(errors="replace")
 
 
-def wrong(row, programs, work):
-    """What a run does other than its row says."""
+def failures(case: Case, programs: Path, work: Path) -> Iterator[str]:
+    """Runs a case in the directory `work`, and yields what differs from it."""
     try:
         terminal, end = pty.openpty()
     except OSError:
-        lay(work, {})
+        lay(str(work), {})
         return
     prepare(programs, work)
     fcntl.ioctl(end, termios.TIOCSWINSZ, struct.pack("4H", 25, COLUMNS, 0, 0))
-    words = [work.parent / "slow" / "bin" / "kumquatsieve-import", *row.words]
-    out = end if row.is_report_there else subprocess.DEVNULL
-    child = subprocess.Popen(words, cwd=work, stdout=out, stderr=end)
+    command = [str(work.parent / "slow" / "bin" / NAME), *case.arguments]
+    out = end if case.has_report else subprocess.DEVNULL
+    child = subprocess.Popen(command, cwd=work, stdout=out, stderr=end)
     os.close(end)
-    written = watched(row, child, terminal, work.parent / "pipe")
+    written = read_all(case, child, terminal, work.parent / "pipe")
     status = child.wait()
     os.close(terminal)
-    lines = tuple(re.sub(r"\d+ (bytes|s)\b", r"0 \1", line) for line in screen(written) if line)
-    if status != 0 or (row.end and lines != row.end):
-        yield f"ends with status {status}, and {lines} on the terminal, not {row.end}"
-    if not row.has_line and ("\x1b" in written or not all(" s: " in line for line in lines)):
+    lines = tuple(without_numbers(line) for line in screen(written) if line)
+    if status != 0 or (case.end and lines != case.end):
+        yield f"status {status}, and {lines} on the terminal, expected {case.end}"
+    if not case.has_status_line and (
+        "\x1b" in written or not all(" s: " in line for line in lines)
+    ):
         yield f"writes {written!r}"
     too_wide = [found[0] for found in SHOWN.finditer(written) if width(found[0][1:-3]) >= COLUMNS]
     if too_wide:

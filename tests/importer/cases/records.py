@@ -1,20 +1,20 @@
-"""Tests of whole images, and records that they passed: what is printed and written."""
+"""Tests of whole images, and records of those that passed: what is printed and written."""
 import hashlib
 import os
 import shutil
 import subprocess
-from typing import Callable, NamedTuple, Optional
+from pathlib import Path
+from typing import Any, Callable, Iterator, List, NamedTuple, Optional, Tuple
 
 from cli.cases.images import LAYOUT_1, LAYOUT_2, LAYOUT_3, changed, with_digest
 
-from .image_dirs import NOBODY
+from .common import FILES, NAME, NOBODY, compiled, lay
 from .system_errors import can_run
-from .common import FILES, compiled, lay
 from .user_dictionaries import USAGE
 
-WANTED = f"--test wants images, and no other option but -v; {USAGE}"
+USAGE_ERROR = f"--test wants images, and no other option but -v; {USAGE}"
 OTHERS = "its group or all users may write"
-# A jseg that changes an image after its tests.
+# A jseg that changes an image after the tests.
 LATE = """#!/bin/sh
 "$JSEG" "$@"
 status=$?
@@ -26,83 +26,97 @@ LONG = "x" * 251 + ".img"
 HOME = "home/kumquatsieve"
 
 
-def in_space(script):
-    """Runs the program in a name space of its own after a script."""
+def in_space(script: str) -> Tuple[str, ...]:
+    """Returns a command that runs a program in a name space of its own, after a script."""
     return ("unshare", "-m", "sh", "-c", f'{script} || exit 77\nexec "$@"', "sh")
 
 
-# A file system with room for the image alone, and none of processes.
+# A file system with room for the image only, and a /proc without processes.
 FULL = in_space("mount -t tmpfs -o size=12k,mode=755 tmpfs small && cp a.img small")
 NO_PROC = in_space("mount -t tmpfs tmpfs /proc")
 
 
-class Row(NamedTuple):
-    """A run of `kumquatsieve-import --test` over images, or of the words.
+# Changes the directory of a run.
+Change = Callable[[Path], None]
 
-    The images are files of the folder by their names. `out` and `err` are what is printed, and
-    `recorded` has the images with a record after it. `change` prepares the folder, `late` is run
-    after the tests, and `before` stands before the program.
+
+class Case(NamedTuple):
+    """A run of `kumquatsieve-import --test` over images, or of `arguments`.
+
+    `out` and `err` are what is printed, and `recorded` has the images with a record afterwards.
+    `change` prepares the directory, `late` is run after the tests, and `before` is the command
+    before the program.
     """
 
     name: str
-    images: tuple = ("a.img",)
-    out: tuple = ()
-    err: tuple = ()
+    images: Tuple[str, ...] = ("a.img",)
+    out: Tuple[str, ...] = ()
+    err: Tuple[str, ...] = ()
     status: int = 0
-    recorded: tuple = ()
-    change: Optional[Callable] = None
+    recorded: Tuple[str, ...] = ()
+    change: Optional[Change] = None
     late: str = ""
-    before: tuple = ()
-    words: tuple = ()
+    before: Tuple[str, ...] = ()
+    arguments: Tuple[str, ...] = ()
     is_other: bool = False
 
 
-def passed(name, *images, **others):
-    return Row(name, images, tuple(f"tested: {one}" for one in images), recorded=images, **others)
+def passed(name: str, *images: str, **others: Any) -> Case:
+    return Case(name, images, tuple(f"tested: {one}" for one in images), recorded=images, **others)
 
 
-def unrecorded(name, image, why, change=None, **others):
-    return Row(name, (image,), (f"tested, not recorded: {image}: {why}",), change=change, **others)
+def unrecorded(
+    name: str, image: str, why: str, change: Optional[Change] = None, **others: Any
+) -> Case:
+    return Case(name, (image,), (f"tested, not recorded: {image}: {why}",), change=change, **others)
 
 
-def refused(name, image, fault, change=None):
-    return Row(name, (image,), err=(f"{image}: {fault}",), status=1, change=change)
+def failed(name: str, image: str, error: str, change: Optional[Change] = None) -> Case:
+    return Case(name, (image,), err=(f"{image}: {error}",), status=1, change=change)
 
 
-def imported(name, said, words=("dic", "new.img"), **others):
-    """An import, of which the lines on the tests are looked at."""
-    return Row(name, words=words, out=said, **others)
+def imported(
+    name: str,
+    out: Tuple[str, ...],
+    arguments: Tuple[str, ...] = ("dic", "new.img"),
+    **others: Any,
+) -> Case:
+    """Returns an import, of which the lines about the tests are compared."""
+    return Case(name, arguments=arguments, out=out, **others)
 
 
-def moded(path, mode):
-    """Gives a file of the folder a mode, or the folder itself."""
+def moded(path: str, mode: int) -> Change:
+    """Gives a file of the directory a mode, or the directory itself."""
     return lambda work: (work / path).chmod(mode)
 
 
-def written(name, data):
-    return lambda work: (work / name).write_bytes(data)
+def written(name: str, data: bytes) -> Change:
+    def write(work: Path) -> None:
+        (work / name).write_bytes(data)
+
+    return write
 
 
-def copied(name):
-    def copy(work):
+def copied(name: str) -> Change:
+    def copy(work: Path) -> None:
         (work / name).parent.mkdir(exist_ok=True)
         shutil.copy(work / "a.img", work / name)
 
     return copy
 
 
-def dated(work):
-    """In 2096."""
+def dated(work: Path) -> None:
+    """Sets the time of an image to 2096."""
     os.utime(work / "a.img", (4e9, 4e9))
 
 
-def open_to_all(work):
+def open_to_all(work: Path) -> None:
     (work / "dir").mkdir()
     (work / "dir").chmod(0o777)
 
 
-def damaged(work):
-    """The image of another feature under the same checksum, and a record of what it was."""
+def damaged(work: Path) -> None:
+    """Writes an image of another feature with the same checksum, and an old record."""
     (work / "a.img").write_bytes(changed(LAYOUT_3, (len(LAYOUT_3) - 33, b"Y")))
     (work / "a.tested").write_text("old")
 
@@ -115,7 +129,7 @@ BAD_ID = "L6 BadToken 0"
 BAD_1, BAD_3 = changed(LAYOUT_1, (120, b"\2")), with_digest(changed(LAYOUT_2, (914, b"\2")))
 OLD = written("new.tested", b"old")
 OF_USER = ("--user", "a.img", "--out", "new.img", "dic/lexicon.csv")
-ROWS = [
+CASES = [
     # what passes
     passed("a system image", "a.img"),
     passed("a user image", "user.img"),
@@ -124,7 +138,7 @@ ROWS = [
     passed("twice", "a.img", "a.img"),
     passed("an old record", "a.img", change=written("a.tested", b"old")),
     passed("a path", "dir/a.img", change=copied("dir/a.img")),
-    Row("a bare name", ("mine",), ("tested: HOME/mine.img",), recorded=(f"{HOME}/mine.img",)),
+    Case("a bare name", ("mine",), ("tested: HOME/mine.img",), recorded=(f"{HOME}/mine.img",)),
     # what has no record
     unrecorded("a link", "link.img", "it is a link to a.img"),
     unrecorded("all may write it", "a.img", BY_ALL, moded("a.img", 0o666)),
@@ -139,12 +153,12 @@ ROWS = [
     unrecorded("written meanwhile", "a.img", CHANGED, late="touch a.img"),
     unrecorded("replaced meanwhile", "a.img", CHANGED, late="cp a.img b.img; mv b.img a.img"),
     # what fails a test
-    refused("a changed byte", "a.img", "L8 Digest", damaged),
-    refused("layout 1, an id", "1.img", BAD_ID, written("1.img", BAD_1)),
-    refused("layout 3, an id", "user.img", BAD_ID, written("user.img", BAD_3)),
-    refused("no image", "text", "L1 Truncated"),
-    refused("a device", "/dev/null", "L1 Truncated"),
-    Row(
+    failed("a changed byte", "a.img", "L8 Digest", damaged),
+    failed("layout 1, an id", "1.img", BAD_ID, written("1.img", BAD_1)),
+    failed("layout 3, an id", "user.img", BAD_ID, written("user.img", BAD_3)),
+    failed("no image", "text", "L1 Truncated"),
+    failed("a device", "/dev/null", "L1 Truncated"),
+    Case(
         "two fail",
         ("text", "none", "a.img"),
         ("tested: a.img",),
@@ -152,10 +166,10 @@ ROWS = [
         1,
         ("a.img",),
     ),
-    Row("a folder", ("dic",), err=("dic: Is a directory",), status=3),
-    Row("no /proc", err=(NO_FD,), status=3, before=NO_PROC),
-    Row("no images", (), err=(WANTED,), status=2),
-    Row("another option", ("a.img", "--encoding", "utf-8"), err=(WANTED,), status=2),
+    Case("a folder", ("dic",), err=("dic: Is a directory",), status=3),
+    Case("no /proc", err=(NO_FD,), status=3, before=NO_PROC),
+    Case("no images", (), err=(USAGE_ERROR,), status=2),
+    Case("another option", ("a.img", "--encoding", "utf-8"), err=(USAGE_ERROR,), status=2),
     # imports
     imported("an import", ("tested: new.img",), recorded=("new.img",)),
     imported("over an old record", ("tested: new.img",), recorded=("new.img",), change=OLD),
@@ -172,31 +186,31 @@ ROWS = [
 ]
 
 
-def seconds(nanoseconds):
+def seconds(nanoseconds: int) -> str:
     return f"{nanoseconds // 10**9}.{nanoseconds % 10**9:09d}"
 
 
-def text_of(path):
-    """The record that a file should have, by the words of the documents."""
-    of = os.stat(path)
+def text_of(path: Path) -> str:
+    """Returns the record that an image should have, as the documents describe it."""
+    status = os.stat(path)
     return "\n".join(
         [
             "kumquatsieve-tested 1",
-            f"device {os.major(of.st_dev)}:{os.minor(of.st_dev)}",
-            f"inode {of.st_ino}",
-            f"size {of.st_size}",
-            f"mtime {seconds(of.st_mtime_ns)}",
-            f"ctime {seconds(of.st_ctime_ns)}",
+            f"device {os.major(status.st_dev)}:{os.minor(status.st_dev)}",
+            f"inode {status.st_ino}",
+            f"size {status.st_size}",
+            f"mtime {seconds(status.st_mtime_ns)}",
+            f"ctime {seconds(status.st_ctime_ns)}",
             f"sha256 {hashlib.sha256(path.read_bytes()).hexdigest()}",
             "",
         ]
     )
 
 
-def prepare(row, programs, work):
+def prepare(case: Case, programs: Path, work: Path) -> None:
     image = compiled(programs, work / "system", FILES, ["lexicon.csv"])
     shutil.rmtree(work / "system")
-    lay(work / "dic", FILES)
+    lay(str(work / "dic"), FILES)
     files = {"a.img": image, "plain": image, "text": b"text"}
     files.update({"1.img": LAYOUT_1, "2.img": LAYOUT_2, "user.img": LAYOUT_3})
     for name, data in files.items():
@@ -205,50 +219,55 @@ def prepare(row, programs, work):
     (work / "small").mkdir()
     (work / HOME).mkdir(parents=True)
     shutil.copy(work / "a.img", work / HOME / "mine.img")
-    if row.change:
-        row.change(work)
+    if case.change:
+        case.change(work)
     work.parent.chmod(0o755)
 
 
-def program(row, programs, work):
-    """The program, beside a jseg that changes the image after the tests where the row says so."""
-    if not row.late:
-        return programs / "kumquatsieve-import"
+def importer(case: Case, programs: Path, work: Path) -> Path:
+    """Returns the program. If there is `late`, its jseg changes the image after the tests."""
+    if not case.late:
+        return programs / NAME
     for name in ("bin", "lib"):
         shutil.copytree(programs.parent / name, work.parent / "late" / name, dirs_exist_ok=True)
     jseg = work.parent / "late" / "bin" / "jseg"
-    jseg.write_text(LATE.replace("{change}", f"cd {work}; {row.late}"))
-    return jseg.parent / "kumquatsieve-import"
+    jseg.write_text(LATE.replace("{change}", f"cd {work}; {case.late}"))
+    return jseg.parent / NAME
 
 
-def record_path(image):
+def record_path(image: Path) -> Path:
     return image.with_name(image.name.removesuffix(".img") + ".tested")
 
 
-def wrong(row, programs, work):
-    """What a run does other than its row says."""
-    prepare(row, programs, work)
-    if not can_run(row):
+def failures(case: Case, programs: Path, work: Path) -> Iterator[str]:
+    """Runs a case in the directory `work`, and yields what differs from it."""
+    prepare(case, programs, work)
+    if not can_run(case.is_other, case.before):
         return
-    place = {**os.environ, "XDG_DATA_HOME": str(work / "home"), "JSEG": str(programs / "jseg")}
-    words = [*row.before, program(row, programs, work), *(row.words or ("--test", *row.images))]
-    user = NOBODY if row.is_other else None
-    groups = [] if row.is_other else None
-    ran = subprocess.run(
-        words,
+    environment = {
+        **os.environ,
+        "XDG_DATA_HOME": str(work / "home"),
+        "JSEG": str(programs / "jseg"),
+    }
+    arguments = case.arguments or ("--test", *case.images)
+    command = [*case.before, str(importer(case, programs, work)), *arguments]
+    user = NOBODY if case.is_other else None
+    groups: Optional[List[int]] = [] if case.is_other else None
+    done = subprocess.run(
+        command,
         cwd=work,
-        env=place,
+        env=environment,
         capture_output=True,
         text=True,
         user=user,
         group=user,
         extra_groups=groups,
     )
-    yield from differs(row, ran, work)
+    yield from printed_failures(case, done, work)
     records = {path: path.read_text() for path in work.rglob("*.tested")}
-    wanted = {record_path(work / image): text_of(work / image) for image in row.recorded}
-    if records != wanted:
-        yield f"records {records}, not {wanted}"
+    expected = {record_path(work / image): text_of(work / image) for image in case.recorded}
+    if records != expected:
+        yield f"records {records}, expected {expected}"
     if {path.stat().st_mode & 0o7777 for path in records} - {0o644}:
         yield "makes records of other modes"
     left = [path.name for path in work.rglob(".*")]
@@ -257,9 +276,13 @@ def wrong(row, programs, work):
     shutil.rmtree(work.parent / "late", ignore_errors=True)
 
 
-def differs(row, ran, work):
-    out = tuple(line for line in ran.stdout.splitlines() if "tested" in line.split(":")[0])
-    err = tuple(line.removeprefix("kumquatsieve-import: ") for line in ran.stderr.splitlines())
-    wanted = tuple(line.replace("HOME", str(work / HOME)) for line in row.out), row.err, row.status
-    if (out, err, ran.returncode) != wanted:
-        yield f"prints {out}, tells {err} and ends with {ran.returncode}, not {wanted}"
+def printed_failures(
+    case: Case, done: "subprocess.CompletedProcess[str]", work: Path
+) -> Iterator[str]:
+    """Yields what is wrong with the lines about tests, with the errors, and with the status."""
+    out = tuple(line for line in done.stdout.splitlines() if "tested" in line.split(":")[0])
+    err = tuple(line.removeprefix(f"{NAME}: ") for line in done.stderr.splitlines())
+    expected_out = tuple(line.replace("HOME", str(work / HOME)) for line in case.out)
+    expected = expected_out, case.err, case.status
+    if (out, err, done.returncode) != expected:
+        yield f"prints {out}, {err}, status {done.returncode}, expected {expected}"

@@ -1,83 +1,107 @@
-"""Lexicons of a user's own, in each encoding: what is compiled are the same lexicons in UTF-8."""
-import os
-import re
-import subprocess
-from typing import NamedTuple
+"""Lexicons of a user dictionary, in each encoding.
 
-from .common import FILES, MARK, compiled, lay
+The image is the same as that of the lexicons in UTF-8.
+"""
+import os
+import subprocess
+from pathlib import Path
+from typing import Iterator, List, Mapping, NamedTuple
+
+from .common import FILES, MARK, NAME, Arguments, Files, Name, compiled, lay, without_numbers
 
 USAGE = (
     "usage: kumquatsieve-import [-v] [--encoding NAME] [--] DIR|ipadic|juman|naist|unidic [IMG], "
     "or kumquatsieve-import [-v] [--encoding NAME] --user DIC --out IMG [--] LEX.., "
     "or kumquatsieve-import [-v] --test [--] IMG.."
 )
-WANTED = f"a user's dictionary wants --user, --out and a lexicon; {USAGE}"
+USAGE_ERROR = f"a user's dictionary wants --user, --out and a lexicon; {USAGE}"
 WORD = "ん,1,1,5,助詞\n"
 OTHER = "すもも,1,1,5,名詞\n"
 OPTIONS = ("--user", "sys.img", "--out", "new.img")
 
 
-class Row(NamedTuple):
-    """A run over lexicons, which are given in byte order of their names, with the encoding that is reported, or what is told with which status."""
+class Case(NamedTuple):
+    """A run over lexicons, in byte order of their names; its encoding, or its error and status."""
 
     name: str
-    lexicons: dict
+    lexicons: Files
     encoding: str = ""
-    utf_8: dict = {}
+    # The lexicons in UTF-8.
+    utf_8: Mapping[str, str] = {}
     err: str = ""
     status: int = 0
-    options: tuple = OPTIONS
-    words: tuple = ()
+    options: Arguments = OPTIONS
+    arguments: Arguments = ()
 
 
-def named(name):
+def in_encoding(name: str) -> Arguments:
+    """Returns options that name the encoding."""
     return (*OPTIONS, "--encoding", name)
 
 
-def refused(name, lexicons, err, status, *options, words=()):
-    return Row(name, lexicons, err=err, status=status, options=options or OPTIONS, words=words)
+def rejected(
+    name: str, lexicons: Files, err: str, status: int, *options: Name, arguments: Arguments = ()
+) -> Case:
+    return Case(
+        name, lexicons, err=err, status=status, options=options or OPTIONS, arguments=arguments
+    )
 
 
-def nowhere(name, *looked):
-    """A run for a system dictionary that is nowhere, also where the import gives a file or a folder of its own that name."""
-    told = "\nkumquatsieve-import: ".join([f"{name}: it is not there", f"{name}: F1 File", *looked])
-    return refused(f"no dictionary {name}", ONE, told, 3, "--user", name, "--out", "new.img")
+def not_found(name: str, *hints: str) -> Case:
+    """Returns a run for a system dictionary that is not found.
+
+    An import makes a file or directory with some of these names for itself.
+    """
+    messages = f"{name}: it is not there", f"{name}: F1 File", *hints
+    err = f"\n{NAME}: ".join(messages)
+    return rejected(f"no dictionary {name}", ONE, err, 3, "--user", name, "--out", "new.img")
 
 
-LOOKED = ("HOME/kumquatsieve", "PREFIX/var/lib/kumquatsieve", "PREFIX/share/kumquatsieve")
-HOMES = (*(f"looked for in {home}" for home in LOOKED), "images there: here")
-ONE, TWO_CODES = {"a.csv": WORD.encode()}, {"a.csv": WORD.encode("euc_jp") * 2 + b"\xff,1,1,5,X\n"}
-CHOICE = "a.csv: --encoding has to choose: UTF-8 fits; EUC-JP fits; EUC-JIS-2004 fits; CP932 makes half-width kana"
-ROWS = [
-    Row("UTF-8", ONE, "UTF-8", {"a.csv": WORD}),
-    Row("EUC-JP", {"a.csv": WORD.encode("euc_jp")}, "EUC-JP", {"a.csv": WORD}),
-    Row(
+SEARCHED = ("HOME/kumquatsieve", "PREFIX/var/lib/kumquatsieve", "PREFIX/share/kumquatsieve")
+HINTS = (*(f"looked for in {folder}" for folder in SEARCHED), "images there: here")
+ONE = {"a.csv": WORD.encode()}
+BROKEN = {"a.csv": WORD.encode("euc_jp") * 2 + b"\xff,1,1,5,X\n"}
+CHOICE = (
+    "a.csv: --encoding has to choose: "
+    "UTF-8 fits; EUC-JP fits; EUC-JIS-2004 fits; CP932 makes half-width kana"
+)
+CASES = [
+    Case("UTF-8", ONE, "UTF-8", {"a.csv": WORD}),
+    Case("EUC-JP", {"a.csv": WORD.encode("euc_jp")}, "EUC-JP", {"a.csv": WORD}),
+    Case(
         "EUC-JP named",
         {"a.csv": WORD.encode("euc_jp")},
         "EUC-JP",
         {"a.csv": WORD},
-        options=named("euc-jp"),
+        options=in_encoding("euc-jp"),
     ),
-    Row(
+    Case(
         "Shift_JIS named",
         {"a.csv": WORD.encode("cp932")},
         "CP932",
         {"a.csv": WORD},
-        options=named("shift_jis"),
+        options=in_encoding("shift_jis"),
     ),
-    Row(
+    Case(
         "two lexicons",
         {"a.csv": WORD.encode("cp932"), "b": OTHER.encode("cp932")},
         "CP932",
         {"a.csv": WORD, "b": OTHER},
     ),
-    Row("a mark", {"a.csv": MARK + WORD.encode()}, "UTF-8", {"a.csv": WORD}),
-    Row("a name of any bytes", {b"\xff\n.csv": WORD.encode()}, "UTF-8", {"a.csv": WORD}),
-    Row("options behind", ONE, "UTF-8", {"a.csv": WORD}, options=(), words=("a.csv", *OPTIONS)),
-    refused("a broken line", TWO_CODES, "a.csv:3: it is not EUC-JP", 1, *named("euc-jp")),
-    refused("no numbers", {"a.csv": b"a,,,,X\n"}, "a.csv:1: S3 BadNumber", 1),
-    refused("alpha or another", {"a.csv": b"\xce\xb1,1,1,5,X\n"}, CHOICE, 1),
-    refused(
+    Case("a mark", {"a.csv": MARK + WORD.encode()}, "UTF-8", {"a.csv": WORD}),
+    Case("a name of any bytes", {b"\xff\n.csv": WORD.encode()}, "UTF-8", {"a.csv": WORD}),
+    Case(
+        "options after operands",
+        ONE,
+        "UTF-8",
+        {"a.csv": WORD},
+        options=(),
+        arguments=("a.csv", *OPTIONS),
+    ),
+    rejected("a broken line", BROKEN, "a.csv:3: it is not EUC-JP", 1, *in_encoding("euc-jp")),
+    rejected("no numbers", {"a.csv": b"a,,,,X\n"}, "a.csv:1: S3 BadNumber", 1),
+    rejected("alpha or another", {"a.csv": b"\xce\xb1,1,1,5,X\n"}, CHOICE, 1),
+    rejected(
         "the image is a lexicon",
         ONE,
         "a.csv is a file that is read: a.csv",
@@ -87,7 +111,7 @@ ROWS = [
         "--out",
         "a.csv",
     ),
-    refused(
+    rejected(
         "the image is the system's",
         ONE,
         "link.img is a file that is read: sys.img",
@@ -97,7 +121,7 @@ ROWS = [
         "--out",
         "link.img",
     ),
-    refused(
+    rejected(
         "the system's by its name",
         ONE,
         "sys.img is a file that is read: HOME/kumquatsieve/here.img",
@@ -107,7 +131,7 @@ ROWS = [
         "--out",
         "sys.img",
     ),
-    refused(
+    rejected(
         "the image is a folder",
         ONE,
         "folder: it is a folder",
@@ -117,10 +141,10 @@ ROWS = [
         "--out",
         "folder",
     ),
-    refused("a slash", ONE, "new/ is no file name", 3, "--user", "sys.img", "--out", "new/"),
-    refused("no file", {}, "none.csv: No such file or directory", 3, words=("none.csv",)),
-    refused("no image", ONE, "text: L2 BadMagic", 1, "--user", "text", "--out", "new.img"),
-    refused(
+    rejected("a slash", ONE, "new/ is no file name", 3, "--user", "sys.img", "--out", "new/"),
+    rejected("no file", {}, "none.csv: No such file or directory", 3, arguments=("none.csv",)),
+    rejected("no image", ONE, "text: L2 BadMagic", 1, "--user", "text", "--out", "new.img"),
+    rejected(
         "no image of a name of any bytes",
         ONE,
         "an argument is not UTF-8",
@@ -130,66 +154,60 @@ ROWS = [
         "--out",
         "new.img",
     ),
-    *(nowhere(name, *HOMES) for name in ("none", "new", "image", "empty", "000000.csv")),
-    *(nowhere(name) for name in ("./none", "./new", "../000000.csv", "../image")),
-    refused("no lexicon", {}, WANTED, 2),
-    refused("no place", ONE, WANTED, 2, "--user", "sys.img"),
-    refused("no system dictionary", ONE, WANTED, 2, "--out", "new.img"),
+    *(not_found(name, *HINTS) for name in ("none", "new", "image", "empty", "000000.csv")),
+    *(not_found(name) for name in ("./none", "./new", "../000000.csv", "../image")),
+    rejected("no lexicon", {}, USAGE_ERROR, 2),
+    rejected("no place", ONE, USAGE_ERROR, 2, "--user", "sys.img"),
+    rejected("no system dictionary", ONE, USAGE_ERROR, 2, "--out", "new.img"),
 ]
 
 
-def image_of(programs, work, utf_8):
-    """The image that dictc makes of lexicons in UTF-8."""
-    lay(work / "want", {name: text.encode() for name, text in utf_8.items()})
-    words = [
-        programs / "dictc",
-        "user",
-        "--dic",
-        work / "sys.img",
-        "--out",
-        "want.img",
-        *sorted(utf_8),
-    ]
-    subprocess.run(words, cwd=work / "want", check=True, stdout=subprocess.DEVNULL)
-    return (work / "want" / "want.img").read_bytes()
+def image_of(programs: Path, work: Path, utf_8: Mapping[str, str]) -> bytes:
+    """Returns the image that dictc compiles from lexicons in UTF-8."""
+    lay(str(work / "expected"), {name: text.encode() for name, text in utf_8.items()})
+    system = ["--dic", str(work / "sys.img"), "--out", "expected.img"]
+    command = [str(programs / "dictc"), "user", *system, *sorted(utf_8)]
+    subprocess.run(command, cwd=work / "expected", check=True, stdout=subprocess.DEVNULL)
+    return (work / "expected" / "expected.img").read_bytes()
 
 
-def wrong(row, programs, work):
-    """What a run does other than its row says."""
-    lay(work, row.lexicons)
+def prepare(case: Case, programs: Path, work: Path) -> None:
+    lay(str(work), case.lexicons)
     (work / "sys.img").write_bytes(compiled(programs, work / "system", FILES, ["lexicon.csv"]))
     (work / "link.img").symlink_to("sys.img")
     (work / "text").write_text("no image" * 100)
     (work / "folder").mkdir()
     (work / "home" / "kumquatsieve").mkdir(parents=True)
     os.link(work / "sys.img", work / "home" / "kumquatsieve" / "here.img")
-    there = {path.name for path in work.iterdir()}
-    words = [*row.options, *(row.words or sorted(row.lexicons, key=os.fsencode))]
-    place = {**os.environ, "XDG_DATA_HOME": str(work / "home")}
-    ran = subprocess.run(
-        [programs / "kumquatsieve-import", *words],
-        cwd=work,
-        env=place,
-        capture_output=True,
-        text=True,
-    )
-    err = (
-        f"kumquatsieve-import: {row.err}\n".replace("HOME", str(work / "home")).replace(
-            "PREFIX", str(programs.parent)
-        )
-        if row.err
-        else ""
-    )
-    if (ran.stderr, ran.returncode) != (err, row.status):
-        yield f"tells {ran.stderr!r} with status {ran.returncode}, not {err!r} with {row.status}"
-    left = {path.name for path in work.iterdir()} - there
-    if left != (set() if row.status else {"new.img", "new.tested"}):
+
+
+def located(case: Case, programs: Path, work: Path) -> str:
+    """Returns standard error with the directories of this run."""
+    if not case.err:
+        return ""
+    err = case.err.replace("HOME", str(work / "home"))
+    return f"{NAME}: {err}\n".replace("PREFIX", str(programs.parent))
+
+
+def failures(case: Case, programs: Path, work: Path) -> Iterator[str]:
+    """Runs a case in the directory `work`, and yields what differs from it."""
+    prepare(case, programs, work)
+    before = {path.name for path in work.iterdir()}
+    lexicons = case.arguments or tuple(sorted(case.lexicons, key=os.fsencode))
+    command: List[Name] = [str(programs / NAME), *case.options, *lexicons]
+    environment = {**os.environ, "XDG_DATA_HOME": str(work / "home")}
+    done = subprocess.run(command, cwd=work, env=environment, capture_output=True, text=True)
+    err = located(case, programs, work)
+    if (done.stderr, done.returncode) != (err, case.status):
+        yield f"status {done.returncode}, {done.stderr!r}, expected {case.status}, {err!r}"
+    left = {path.name for path in work.iterdir()} - before
+    if left != (set() if case.status else {"new.img", "new.tested"}):
         yield f"leaves {sorted(left)}"
-    if row.status or "new.img" not in left:
+    if case.status or "new.img" not in left:
         return
-    out = re.sub(r"\d+ (bytes|s)\b", r"0 \1", ran.stdout)
-    counted = f"encoding: {row.encoding}\n{len(row.utf_8)} entries, 0 skipped\n"
-    if out != f"{counted}image: new.img, 0 bytes, 0 s\ntested: new.img\n":
-        yield f"prints {ran.stdout!r}"
-    if (work / "new.img").read_bytes() != image_of(programs, work, row.utf_8):
-        yield "makes another image than dictc of the lexicons in UTF-8"
+    counts = f"encoding: {case.encoding}\n{len(case.utf_8)} entries, 0 skipped\n"
+    expected = f"{counts}image: new.img, 0 bytes, 0 s\ntested: new.img\n"
+    if without_numbers(done.stdout) != expected:
+        yield f"prints {done.stdout!r}"
+    if (work / "new.img").read_bytes() != image_of(programs, work, case.utf_8):
+        yield "makes another image than dictc from the lexicons in UTF-8"
