@@ -1,20 +1,23 @@
 # shellcheck shell=bash
-# Completes the words of jseg, kumquatsieve-cut, dictc and kumquatsieve-import in bash. It is installed under the name of each, where
-# bash-completion looks.
+# Completes the arguments of jseg, kumquatsieve-cut, dictc and kumquatsieve-import in bash. It is
+# installed under the name of each program, where bash-completion finds it.
 #
-# `cur` is the word that is completed, and `prev` the one before it: bash takes `--out=x` for three words.
+# `cur` is the word that is completed, and `prev` the one before it. bash splits `--out=x` into
+# three words.
 
-_kumquatsieve_codes="C1 C2 C3 C4 C5 C6 C7 F1 F2 G1 G2 G3 G4 G5 I1 I2 I3 K1 K2 K3 K4 K5 K6 K7 K8 L1 L2 L3 L4 L5 L6 L7 L8 M1 M2 M3 M4 Memory
+_kumquatsieve_codes="C1 C2 C3 C4 C5 C6 C7 F1 F2 G1 G2 G3 G4 G5 I1 I2 I3
+    K1 K2 K3 K4 K5 K6 K7 K8 L1 L2 L3 L4 L5 L6 L7 L8 M1 M2 M3 M4 Memory
     O1 O2 O3 P1 P2 P3 S1 S2 S3 S4 S5 U1 U2"
 _kumquatsieve_encodings="utf-8 euc-jp euc-jis-2004 cp932 iso-2022-jp"
 
-# Of these words those that begin so. They are this file's own: `compgen -W` expands them.
+# Completes to those of the words in $1 that start with `cur`. `compgen -W` expands them, so they
+# must be this file's own.
 _kumquatsieve_of() {
     local IFS=$' \t\n'
     mapfile -t COMPREPLY < <(compgen -W "$1" -- "$cur")
 }
 
-# Files and folders, as bash completes them where no function does.
+# Completes to files and directories, as bash does without a function.
 _kumquatsieve_files() {
     compopt -o default
 }
@@ -23,31 +26,33 @@ _kumquatsieve_folders() {
     compopt -o dirnames
 }
 
-# The folders of the user's own images, and of those that are installed with a program: of PREFIX/bin/jseg PREFIX/var/lib/kumquatsieve, which is
-# /var/lib/kumquatsieve under /usr, and PREFIX/share/kumquatsieve.
-_kumquatsieve_homes() {
+# Sets `image_dirs` to the directories of the user's images and of the images that are installed
+# with a program: for PREFIX/bin/jseg these are PREFIX/var/lib/kumquatsieve, or
+# /var/lib/kumquatsieve if PREFIX is /usr, and PREFIX/share/kumquatsieve.
+_kumquatsieve_image_dirs() {
     local program prefix
     if [[ ${XDG_DATA_HOME-} = /* ]]; then
-        homes=("$XDG_DATA_HOME/kumquatsieve")
+        image_dirs=("$XDG_DATA_HOME/kumquatsieve")
     elif [[ ${HOME-} = /* ]]; then
-        homes=("$HOME/.local/share/kumquatsieve")
+        image_dirs=("$HOME/.local/share/kumquatsieve")
     fi
-    program=$(type -P -- "${COMP_WORDS[0]/#\~/$HOME}") && program=$(readlink -f -- "$program") || return 0
+    program=$(type -P -- "${COMP_WORDS[0]/#\~/$HOME}") || return 0
+    program=$(readlink -f -- "$program") || return 0
     prefix=${program%/*/*}
     if [[ $prefix = /usr ]]; then
-        homes+=(/var/lib/kumquatsieve)
+        image_dirs+=(/var/lib/kumquatsieve)
     else
-        homes+=("$prefix/var/lib/kumquatsieve")
+        image_dirs+=("$prefix/var/lib/kumquatsieve")
     fi
-    homes+=("$prefix/share/kumquatsieve")
+    image_dirs+=("$prefix/share/kumquatsieve")
 }
 
-# The names of the images that stand there.
+# Adds the names of the images in the image directories to `names`.
 _kumquatsieve_names() {
-    local home image homes=()
-    _kumquatsieve_homes
-    for home in "${homes[@]}"; do
-        for image in "$home"/*.img; do
+    local folder image image_dirs=()
+    _kumquatsieve_image_dirs
+    for folder in "${image_dirs[@]}"; do
+        for image in "$folder"/*.img; do
             [[ -f $image ]] || continue
             image=${image##*/}
             names+=("${image%.img}")
@@ -55,8 +60,9 @@ _kumquatsieve_names() {
     done
 }
 
-# An image by its file, or by its name. A name is compared as it stands, since `compgen -W` would expand it. readline quotes what is put into the line,
-# but not a word with one of these three characters, which it takes for one that the shell should expand; after an opening quote it quotes that too.
+# Completes to images, by their files and by their names. A name is compared here, because
+# `compgen -W` would expand it. readline quotes the word that it inserts, but not one with $, ` or
+# ~, which the shell might be meant to expand; after an opening quote it quotes that too.
 _kumquatsieve_image() {
     local name names=() typed=${cur//\\/}
     [[ $cur != [\"\']* ]] || typed=${cur:1}
@@ -84,7 +90,7 @@ _kumquatsieve_words() {
     fi
 }
 
-# Whether a word stands before the one that is completed.
+# Returns whether one of the words before `cur` is $1.
 _kumquatsieve_has() {
     local word
     for word in "${COMP_WORDS[@]:1:COMP_CWORD-1}"; do
@@ -104,7 +110,10 @@ _kumquatsieve_jseg() {
     --lattice) _kumquatsieve_of "tsv dot" ;;
     --explain) _kumquatsieve_of "$_kumquatsieve_codes" ;;
     -M | -F | -U | -B | -E | --within) ;;
-    *) _kumquatsieve_of "-d -u --sources --sample --dictionaries --skip-digest -M -O -F -U -B -E --lattice --within --why -v --explain -h --help -V --version" ;;
+    *)
+        _kumquatsieve_of "-d -u --sources --sample --dictionaries --skip-digest -M -O -F -U -B -E
+            --lattice --within --why -v --explain -h --help -V --version"
+        ;;
     esac
 }
 
@@ -116,7 +125,10 @@ _kumquatsieve_cut() {
     -d | -u) _kumquatsieve_image ;;
     -O) _kumquatsieve_of wakati ;;
     -j | -M | -F | -U | -B | -E) ;;
-    *) _kumquatsieve_of "-d -u --test-digest --skip-digest --copy -j -M -O -F -U -B -E -v -h --help -V --version" ;;
+    *)
+        _kumquatsieve_of "-d -u --test-digest --skip-digest --copy -j -M -O -F -U -B -E
+            -v -h --help -V --version"
+        ;;
     esac
 }
 
@@ -148,7 +160,7 @@ _kumquatsieve_dictc() {
     esac
 }
 
-# How many words that are no options stand before the one that is completed.
+# Prints how many of the words before `cur` are not options.
 _kumquatsieve_count() {
     local word count=0 before=
     for word in "${COMP_WORDS[@]:1:COMP_CWORD-1}"; do
