@@ -11,6 +11,10 @@ from .sources import TWO, printed_errors
 
 MARK = b"\xef\xbb\xbf"
 DENIED = 0o000
+LONG_NAME = "n" * 256
+# The line of an entry whose word cost is no number, and what is printed after it.
+NO_NUMBER = "  b,1,1,x,X\n"
+NUMBER = "dictc: bad.csv:4: field 4 (word cost) is 'x', not an integer from -32768 to 32767\n"
 
 # Why a file can't be read. (command, path, what is there, why)
 WHY: List[Tuple[str, str, Found, str]] = [
@@ -22,6 +26,8 @@ WHY: List[Tuple[str, str, Found, str]] = [
     (f"{SYSTEM} -v folder", "folder", {}, "it is a directory"),
     ("dictc user -v --dic none.img --out new.img user.csv", "none.img", None, "it is not there"),
     ("jseg -v -d memory", "memory", Path("/proc/self/mem"), "a read of it failed"),
+    ("jseg -v -d loop", "loop", Path("loop"), "Too many levels of symbolic links"),
+    (f"jseg -v -d {LONG_NAME}", LONG_NAME, None, "File name too long"),
 ]
 
 NOT_THERE = "{program}: none.img: it is not there\n"
@@ -94,7 +100,7 @@ def all_hints(command: str) -> Iterator[Case]:
     hints = CONVERTER.format(program="dictc")
     hints += "".join(explain_hint("dictc", code) for code in codes)
     command = f"{command} --all-faults bad.csv other.csv"
-    errors = printed_errors("bad.csv", LEXICON_ERRORS)
+    errors = printed_errors("bad.csv", LEXICON_ERRORS).replace(NO_NUMBER, NO_NUMBER + NUMBER)
     errors += printed_errors("other.csv", [(1, "S2 TooFewFields", "c,1,1")])
     yield Case(
         f"hints after all errors: {command}",

@@ -1,5 +1,6 @@
 """Images by their names: the search path, the message about a name that is not found, and
 `--dictionaries`."""
+from pathlib import Path
 from typing import Dict, List, Mapping, Sequence, Tuple
 
 from .images import LAYOUT_1, LAYOUT_2, LAYOUT_3, UNTESTED, changed
@@ -76,6 +77,14 @@ FOUND: List[Tuple[str, str, str, str, Variables, Files]] = [
         MO,
         DATA,
         {**user_images(), "data/kumquatsieve/installed.img": {}},
+    ),
+    (
+        "a device in the user's data",
+        "jseg -d installed",
+        "も\n",
+        MO,
+        DATA,
+        {**user_images(), "data/kumquatsieve/installed.img": Path("/dev/null")},
     ),
 ]
 
@@ -217,6 +226,7 @@ NAMED: Dict[str, Found] = {
     "data/kumquatsieve/é.img": LAYOUT_3,
     "data/kumquatsieve/x\ty.img": LAYOUT_2,
     "data/kumquatsieve/folder.img": {},
+    "data/kumquatsieve/device.img": Path("/dev/null"),
     "data/kumquatsieve/.img": LAYOUT_1,
     "data/kumquatsieve/a.dicrc": b"",
     "data/kumquatsieve/\udcff.img": b"",
