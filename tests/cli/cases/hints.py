@@ -27,7 +27,6 @@ WHY: List[Tuple[str, str, Found, str]] = [
     ("dictc user -v --dic none.img --out new.img user.csv", "none.img", None, "it is not there"),
     ("jseg -v -d memory", "memory", Path("/proc/self/mem"), "a read of it failed"),
     ("jseg -v -d loop", "loop", Path("loop"), "Too many levels of symbolic links"),
-    (f"jseg -v -d {LONG_NAME}", LONG_NAME, None, "File name too long"),
 ]
 
 NOT_THERE = "{program}: none.img: it is not there\n"
@@ -129,6 +128,12 @@ CASES = [
             files={path: there},
         )
         for command, path, there, why in WHY
+    ),
+    Case(
+        "a name that is too long",
+        f"jseg -v -d {LONG_NAME}",
+        err=Has("", (f": {LONG_NAME}: File name too long\n", f": {LONG_NAME}: F1 File\n")),
+        status=3,
     ),
     Case(
         "no permission",
