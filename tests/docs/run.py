@@ -44,7 +44,7 @@ from support.running import (  # noqa: E402
     run,
 )
 
-NAMES = ["USAGE", "FROM_MECAB", "DICTIONARIES", "LARGE_CORPORA", "LIBRARY", "PYTHON"]
+NAMES = ["CLI", "FROM_MECAB", "DICTIONARIES", "LARGE_CORPORA", "LIBRARY", "PYTHON"]
 DOCUMENTS = ["README.md", *(f"docs/{name}.md" for name in NAMES)]
 PROGRAMS = [program(name) for name in ("dictc", "jseg")]
 IPADIC = Path("/usr/share/mecab/dic/ipadic/matrix.def")

@@ -54,7 +54,7 @@ PATHS = (
 )
 # A link in a document of docs, and whether it leads to a file and a heading.
 LINKS = (
-    ("USAGE.md", True),
+    ("CLI.md", True),
     ("NOTHING.md", False),
     ("../README.md", True),
     ("ARCHITECTURE.md#the-tree", True),
