@@ -5,6 +5,8 @@ from collections import defaultdict
 from pathlib import Path
 from typing import Any, Dict, Iterator, List, Tuple
 
+from crates import uses
+
 TOP = Path(__file__).resolve().parents[1]
 KINDS = ("proof", "tests", "edits", "other")
 # One object of the log. The first is of the whole run; the others are of processes and of tests.
@@ -52,15 +54,6 @@ def edit_costs(runs: List[Line]) -> Iterator[str]:
             yield f"- {name}: {len(seconds)}, {span}, median {median:.0f}"
 
 
-def uses(crate: str) -> List[str]:
-    """Returns the crates that crates.txt lists for a crate."""
-    for line in (TOP / "crates.txt").read_text().splitlines():
-        head, _, used = line.partition("#")[0].partition(":")
-        if head.split()[:1] == [crate]:
-            return used.split()
-    return []
-
-
 def stages_of(runs: List[Line]) -> Dict[Stage, Line]:
     """Returns each stage of a crate, from the start of its first process to the last end."""
     stages: Dict[Stage, Line] = {}
@@ -82,7 +75,7 @@ def last_chain(runs: List[Line]) -> Iterator[Tuple[Stage, Line]]:
     while key:
         yield key, stages[key]
         crate, kind = key
-        waits = [(name, "proof") for name in uses(crate)]
+        waits = [(name, "proof") for name in uses().get(crate, [])]
         if kind == "edits":
             waits = [(crate, "proof"), (crate, "tests")]
         known = [stage for stage in waits if stage in stages]
