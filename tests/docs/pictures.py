@@ -44,6 +44,19 @@ LIBRARY = "KUMQUATSIEVE_LIBRARY"
 ENTRY = re.compile(r"^\$ echo '([^']*,1285,1285,[^']*)' >>? own\.csv$", re.M)
 
 
+# The colors of a drawing on a dark page, which Graphviz has no option for.
+STYLE = """<style>
+@media (prefers-color-scheme: dark) {
+  [fill="white"] { fill: #0d1117 }
+  [stroke="black"] { stroke: #e6edf3 }
+  [fill="black"], text { fill: #e6edf3 }
+  [stroke="red"] { stroke: #ff7b72 }
+  [fill="red"] { fill: #ff7b72 }
+}
+</style>
+"""
+
+
 class Picture(NamedTuple):
     """The lattice of a line with the first `entries` entries of the document.
 
@@ -105,7 +118,8 @@ def drawing_of(graph: str) -> str:
     """Draws a graph by Graphviz, without the comments that name its version."""
     words = ["dot", "-Tsvg"]
     svg = subprocess.run(words, input=graph.encode(), check=True, stdout=subprocess.PIPE).stdout
-    return re.sub(r"<!--.*?-->\n", "", svg.decode(), flags=re.S)
+    plain = re.sub(r"<!--.*?-->\n", "", svg.decode(), flags=re.S)
+    return plain.replace("<g ", f"{STYLE}<g ", 1)
 
 
 def words_of(svg: str) -> List[str]:
