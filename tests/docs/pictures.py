@@ -2,16 +2,17 @@
 """Draws the pictures of the documents, or checks that they are up to date:
 
     tests/docs/pictures.py             compares docs/pictures/NAME.dot with the graphs, byte for
-                                       byte, and the words of NAME.svg with the drawings
+                                       byte, and the words and edges of NAME.svg with the drawings
     tests/docs/pictures.py --write     writes both
 
-A graph is the lattice of a line over IPADIC, with the entries of docs/DICTIONARIES.md or without.
-Versions of Graphviz place words differently, so only the words of a drawing are compared. The
-status is 1 if a picture differs.
+One graph is that of scripts/draw-crates. The others are lattices of a line over IPADIC, with the
+entries of docs/DICTIONARIES.md or without. Versions of Graphviz place words differently, so only
+the words and edges of a drawing are compared. The status is 1 if a picture differs.
 
 The library is the one that KUMQUATSIEVE_LIBRARY names. Without the variable it is built from
-crates/cutter_c/out/libcutter_c.a. Needs: crates/dictc/out/dictc, gcc, Graphviz's dot, and IPADIC's
-sources (Debian: graphviz, mecab-ipadic). If one is missing the status is 77.
+crates/cutter_c/out/libcutter_c.a. All pictures need Graphviz's dot, and the lattices also
+crates/dictc/out/dictc, gcc, and IPADIC's sources (Debian: graphviz, mecab-ipadic). If one of these
+is missing, what needs it is left out, and the status is 77 unless another picture differs.
 """
 import os
 import re
@@ -19,18 +20,21 @@ import subprocess
 import sys
 import tempfile
 from pathlib import Path
-from typing import Iterator, List, NamedTuple
+from typing import Dict, Iterator, List, NamedTuple
 
 sys.dont_write_bytecode = True
 sys.path.insert(0, str(Path(__file__).resolve().parents[1]))
 from support.running import (  # noqa: E402
     ARCHIVE,
     IMPORTER,
+    LEFT_OUT,
     TOP,
     Words,
     end_left_out,
+    leave_out,
     missing_of,
     program,
+    run,
 )
 
 sys.path.insert(0, str(TOP / "python"))
@@ -57,7 +61,7 @@ STYLE = """<style>
 """
 
 
-class Picture(NamedTuple):
+class Lattice(NamedTuple):
     """The lattice of a line with the first `entries` entries of the document.
 
     It has the nodes that lost by at most `within`.
@@ -69,14 +73,14 @@ class Picture(NamedTuple):
     within: int = 4000
 
 
-CASES = [Picture("cut_before", 0), Picture("cut_after", 2)]
+LATTICES = [Lattice("cut_before", 0), Lattice("cut_after", 2)]
 
 
 def missing() -> List[str]:
-    """Returns the programs and files that are needed and missing."""
+    """Returns the programs and files that lattices need and that are missing."""
     library = [] if LIBRARY in os.environ else [ARCHIVE]
     files = [str(path) for path in [DICTC, SOURCES, *library] if not path.exists()]
-    return [*missing_of(["gcc", "dot"]), *files]
+    return [*missing_of(["gcc"]), *files]
 
 
 def run_silently(words: Words) -> None:
@@ -94,8 +98,8 @@ def prepare(folder: Path) -> Path:
     return folder / "ipadic.img"
 
 
-def graph_of(picture: Picture, image: Path, folder: Path) -> str:
-    """Returns the graph of a picture, in Graphviz's language."""
+def graph_of(picture: Lattice, image: Path, folder: Path) -> str:
+    """Returns the graph of a lattice, in Graphviz's language."""
     # It loads the library, which is built by now.
     from kumquatsieve import Cutter
 
@@ -114,21 +118,27 @@ def graph_of(picture: Picture, image: Path, folder: Path) -> str:
     return Cutter(image, users).lattice(picture.line).to_dot(picture.within)
 
 
+def lattice_graphs() -> Dict[str, str]:
+    """Returns the graph of each lattice by its name."""
+    with tempfile.TemporaryDirectory() as name:
+        image = prepare(Path(name))
+        return {picture.name: graph_of(picture, image, Path(name)) for picture in LATTICES}
+
+
 def drawing_of(graph: str) -> str:
     """Draws a graph by Graphviz, without the comments that name its version."""
-    words = ["dot", "-Tsvg"]
-    svg = subprocess.run(words, input=graph.encode(), check=True, stdout=subprocess.PIPE).stdout
-    plain = re.sub(r"<!--.*?-->\n", "", svg.decode(), flags=re.S)
-    return plain.replace("<g ", f"{STYLE}<g ", 1)
+    svg = run(["dot", "-Tsvg"], graph.encode()).decode()
+    return re.sub(r"<!--.*?-->\n", "", svg, flags=re.S).replace("<g ", f"{STYLE}<g ", 1)
 
 
 def words_of(svg: str) -> List[str]:
-    return sorted(re.findall(r">([^<>\n]+)</text>", svg))
+    """Returns the words of a drawing, and its edges by the names of their ends."""
+    return sorted(re.findall(r"(?<=>)[^<>\n]+(?=</text>)|(?<=<title>)\S+&gt;\S+(?=</title>)", svg))
 
 
-def differences(picture: Picture, graph: str) -> Iterator[str]:
+def differences(name: str, graph: str) -> Iterator[str]:
     """Yields a message for each file of a picture that is missing or out of date."""
-    dot, svg = (PICTURES / f"{picture.name}.{suffix}" for suffix in ("dot", "svg"))
+    dot, svg = (PICTURES / f"{name}.{suffix}" for suffix in ("dot", "svg"))
     is_current = {
         dot: dot.exists() and dot.read_text() == graph,
         svg: svg.exists() and words_of(svg.read_text()) == words_of(drawing_of(graph)),
@@ -137,29 +147,31 @@ def differences(picture: Picture, graph: str) -> Iterator[str]:
         yield f"{path.relative_to(TOP)} is out of date: tests/docs/pictures.py --write"
 
 
-def write(picture: Picture, graph: str) -> None:
+def write(name: str, graph: str) -> None:
     PICTURES.mkdir(exist_ok=True)
-    (PICTURES / f"{picture.name}.dot").write_text(graph)
-    (PICTURES / f"{picture.name}.svg").write_text(drawing_of(graph))
+    (PICTURES / f"{name}.dot").write_text(graph)
+    (PICTURES / f"{name}.svg").write_text(drawing_of(graph))
 
 
 def main(arguments: List[str]) -> int:
     if arguments not in ([], ["--write"]):
         sys.exit("usage: tests/docs/pictures.py [--write]")
-    if missing():
-        end_left_out(f"{' and '.join(missing())} missing")
-    found: List[str] = []
-    with tempfile.TemporaryDirectory() as name:
-        image = prepare(Path(name))
-        for picture in CASES:
-            graph = graph_of(picture, image, Path(name))
-            if arguments:
-                write(picture, graph)
-            found += differences(picture, graph)
+    if missing_of(["dot"]):
+        end_left_out("dot missing")
+    graphs = {"crates": run([TOP / "scripts" / "draw-crates"]).decode()}
+    lacking = missing()
+    if lacking:
+        leave_out(f"the lattices: {' and '.join(lacking)} missing")
+    else:
+        graphs.update(lattice_graphs())
+    if arguments:
+        for name, graph in graphs.items():
+            write(name, graph)
+    found = [text for name, graph in graphs.items() for text in differences(name, graph)]
     for difference in found:
         print(difference, file=sys.stderr)
-    print(f"{len(CASES)} pictures, {len(found)} differences")
-    return 1 if found else 0
+    print(f"{len(graphs)} pictures, {len(found)} differences")
+    return 1 if found else LEFT_OUT if lacking else 0
 
 
 sys.exit(main(sys.argv[1:]))
