@@ -156,7 +156,8 @@ CASES: List[Case] = [
         "the line of an error",
         {**FILES, "user.csv": MISNUMBERED},
         f"{BEGUN}{MISNUMBERED_LEFT_OUT}{NO_DICRC}\n",
-        "dic/user.csv:5: S3 BadNumber",
+        "dic/user.csv:5: field 4 (word cost) is 'x', not an integer from -32768 to 32767\n"
+        f"{NAME}: dic/user.csv:5: S3 BadNumber",
         1,
     ),
     Case(

@@ -99,7 +99,13 @@ CASES = [
         arguments=("a.csv", *OPTIONS),
     ),
     rejected("a broken line", BROKEN, "a.csv:3: it is not EUC-JP", 1, *in_encoding("euc-jp")),
-    rejected("no numbers", {"a.csv": b"a,,,,X\n"}, "a.csv:1: S3 BadNumber", 1),
+    rejected(
+        "no numbers",
+        {"a.csv": b"a,,,,X\n"},
+        "a.csv:1: field 2 (left id) is '', not an integer from 0 to 65535\n"
+        f"{NAME}: a.csv:1: S3 BadNumber",
+        1,
+    ),
     rejected("alpha or another", {"a.csv": b"\xce\xb1,1,1,5,X\n"}, CHOICE, 1),
     rejected(
         "the image is a lexicon",
