@@ -49,13 +49,13 @@ def image_dir_for(prefix: bytes) -> ImageDir:
 def find_image(name: bytes, prefix: bytes) -> Optional[bytes]:
     """Returns the path of the image that an argument of the programs names, or None.
 
-    A bare name that is not a file is searched for in the image directories.
+    A bare name that is not a file is searched for in the image directories, among regular files.
     """
     if b"/" in name or is_file(name):
         return name if os.path.lexists(name) else None
     for folder in (user_dir(), system_dir(prefix), os.path.join(prefix, b"share", FOLDER)):
         path = os.path.join(folder, name + b".img") if folder is not None else None
-        if path is not None and is_file(path):
+        if path is not None and os.path.isfile(path):
             return path
     return None
 

@@ -1,4 +1,7 @@
-"""Where an image goes that is named by its dictionary alone. jseg finds it there by its name."""
+"""Where an image goes that is named by its dictionary alone.
+
+jseg and kumquatsieve-import find it there by its name.
+"""
 import os
 import shutil
 import stat
@@ -14,6 +17,8 @@ WORDS = "すもも もも \nもも もも \n"
 SYSTEM = "PREFIX/var/lib/kumquatsieve"
 OWN = f"home: this user's own, since {SYSTEM} can't be written"
 ALL = "home: the system's, for all users"
+# How long a command may take, which would wait for ever if it opened a FIFO.
+SECONDS = 120
 
 
 class Case(NamedTuple):
@@ -30,6 +35,8 @@ class Case(NamedTuple):
     # Whether the system's directory exists.
     exists: bool = True
     umask: int = 0o077
+    # The path of a FIFO, which is no image. It is made before the import.
+    fifo: str = ""
 
 
 DATA, HOME = {"XDG_DATA_HOME": "HERE/data"}, {"HOME": "HERE/home"}
@@ -37,6 +44,14 @@ CASES = [
     Case("the system's", {**DATA, **HOME}, True, SYSTEM, ALL),
     Case("the system's, which is not there", {**DATA, **HOME}, True, SYSTEM, ALL, exists=False),
     Case("the system's, of who has no home", {}, True, SYSTEM, ALL),
+    Case(
+        "the system's, after a FIFO of the same name",
+        {**DATA, **HOME},
+        True,
+        SYSTEM,
+        ALL,
+        fifo="data/kumquatsieve/dic.img",
+    ),
     Case("the user's data", {**DATA, **HOME}, False, "HERE/data/kumquatsieve", OWN),
     Case("the user's home", HOME, False, "HERE/home/.local/share/kumquatsieve", OWN),
     Case("the user's data, of a group", DATA, False, "HERE/data/kumquatsieve", OWN, umask=0o002),
@@ -76,11 +91,15 @@ def run(
         group=user,
         extra_groups=groups,
         umask=case.umask,
+        timeout=SECONDS,
     )
 
 
 def prepare(case: Case, programs: Path, work: Path) -> None:
     lay(str(work / "dic"), FILES)
+    if case.fifo:
+        (work / case.fifo).parent.mkdir(parents=True)
+        os.mkfifo(work / case.fifo)
     work.parent.chmod(0o755)
     system = programs.parent / "var" / "lib" / "kumquatsieve"
     if case.exists:
@@ -124,3 +143,6 @@ def image_failures(
     segmented = run(programs, work, case, command, (SAMPLE / "text.txt").read_text())
     if segmented.stdout != WORDS:
         yield f"jseg -d dic prints {segmented.stdout!r}, {segmented.stderr!r}"
+    again = run(programs, work, case, [str(programs / NAME), "--test", "dic"])
+    if again.stdout != f"tested: {image_dir}/dic.img\n":
+        yield f"--test dic prints {again.stdout!r}, {again.stderr!r}"
