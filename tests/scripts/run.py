@@ -72,6 +72,17 @@ OUTPUTS = (
     ("image 1.2 cases\n", 0),
     ("no count\n", 0),
 )
+# Names of tests, a command that tests/run then has, and whether it has it.
+CHOSEN = (
+    ((), "scripts/build-archive", True),
+    (("capi",), "tests/capi/run.py --built", True),
+    (("capi",), "scripts/build-archive", False),
+    (("capi",), "packaging/package --built PACKAGES", False),
+    (("scripts/build-archive", "capi"), "scripts/build-archive", True),
+    (("tests/packaging/lint PACKAGES/*.deb",), "packaging/package --built PACKAGES", True),
+    (("tests/packaging/lint PACKAGES/*.deb",), "packaging/wheel --built PACKAGES", False),
+    (("tests/packaging/wheel PACKAGES/*.whl",), "packaging/wheel --built PACKAGES", True),
+)
 LONG = "word " * 19 + "words"
 # Lines of Markdown, and the same wrapped.
 MARKDOWN = (
@@ -94,9 +105,10 @@ SCRIPTS = (
 )
 
 
-def script(name: str) -> ModuleType:
+def script(path: str) -> ModuleType:
     """Returns a script without a suffix as a module."""
-    loader = importlib.machinery.SourceFileLoader(name, str(TOP / "scripts" / name))
+    name = path.replace("/", "_")
+    loader = importlib.machinery.SourceFileLoader(name, str(TOP / path))
     spec = importlib.util.spec_from_loader(name, loader)
     assert spec is not None
     module = importlib.util.module_from_spec(spec)
@@ -118,7 +130,11 @@ def errors_of_rules() -> Iterator[str]:
     for output, count in OUTPUTS:
         if reported_cases(output) != count:
             yield f"output {output!r}: {reported_cases(output)} cases"
-    wrapped = script("wrap").wrapped
+    chosen_checks = script("tests/run").chosen_checks
+    for names, command, is_chosen in CHOSEN:
+        if (command in {check.words for check in chosen_checks(names)}) != is_chosen:
+            yield f"tests/run {' '.join(names)}: {command}"
+    wrapped = script("scripts/wrap").wrapped
     for lines, expected in MARKDOWN:
         if list(wrapped(lines))[:-1] != expected:
             yield f"Markdown {lines}: {list(wrapped(lines))}"
@@ -144,7 +160,7 @@ def main() -> int:
     found = [*errors_of_rules(), *errors_of_options()]
     for error in found:
         print(f"scripts: {error}", file=sys.stderr)
-    tables = (SUBJECTS, PATHS, LINKS, OUTPUTS, MARKDOWN, SCRIPTS, SCRIPTS)
+    tables = (SUBJECTS, PATHS, LINKS, OUTPUTS, CHOSEN, MARKDOWN, SCRIPTS, SCRIPTS)
     print(f"{sum(map(len, tables))} cases of scripts, {len(found)} errors")
     return 1 if found else 0
 
