@@ -19,6 +19,7 @@ which many paths have the same cost. The status is 1 if jseg prints anything els
 Needs crates/jseg/out/jseg, which `rt run` in its directory builds. If it is missing the status is
 77, and nothing was checked.
 """
+import argparse
 import itertools
 import sys
 import tempfile
@@ -265,6 +266,10 @@ def check(name: str, folder: Path) -> int:
 
 
 def main() -> int:
+    arguments = argparse.ArgumentParser(
+        description=__doc__, formatter_class=argparse.RawDescriptionHelpFormatter
+    )
+    arguments.parse_args()
     if not JSEG.exists():
         end_left_out(f"{JSEG} is missing")
     with tempfile.TemporaryDirectory() as folder:

@@ -9,6 +9,7 @@ if a drawing differs.
 Needs crates/jseg/out/jseg, which `rt run` in its directory builds, and Graphviz's dot. If dot is
 missing the status is 77, and nothing was run.
 """
+import argparse
 import shutil
 import subprocess
 import sys
@@ -117,6 +118,10 @@ def failures_of(line: str) -> Iterator[str]:
 
 
 def main() -> int:
+    arguments = argparse.ArgumentParser(
+        description=__doc__, formatter_class=argparse.RawDescriptionHelpFormatter
+    )
+    arguments.parse_args()
     if not shutil.which("dot"):
         end_left_out("Graphviz's dot is missing")
     if not JSEG.exists():

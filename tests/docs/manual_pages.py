@@ -15,6 +15,7 @@ Needs: crates/dictc/out/dictc and crates/jseg/out/jseg, which `rt run` in their 
 mandoc and zsh (Debian: mandoc, zsh). Without the programs the status is 2. Without mandoc or zsh
 that part is reported as left out, and the status is 77.
 """
+import argparse
 import re
 import shutil
 import subprocess
@@ -104,6 +105,10 @@ def option_differences() -> Iterator[str]:
 
 
 def main() -> int:
+    arguments = argparse.ArgumentParser(
+        description=__doc__, formatter_class=argparse.RawDescriptionHelpFormatter
+    )
+    arguments.parse_args()
     missing = [name for name in HELPS if not program(name).exists()]
     if missing:
         print(f"manual: {' and '.join(missing)} not built: nothing was compared", file=sys.stderr)

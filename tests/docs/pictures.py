@@ -14,6 +14,7 @@ crates/cutter_c/out/libcutter_c.a. All pictures need Graphviz's dot, and the lat
 crates/dictc/out/dictc, gcc, and IPADIC's sources (Debian: graphviz, mecab-ipadic). If one of these
 is missing, what needs it is left out, and the status is 77 unless another picture differs.
 """
+import argparse
 import os
 import re
 import subprocess
@@ -153,9 +154,12 @@ def write(name: str, graph: str) -> None:
     (PICTURES / f"{name}.svg").write_text(drawing_of(graph))
 
 
-def main(arguments: List[str]) -> int:
-    if arguments not in ([], ["--write"]):
-        sys.exit("usage: tests/docs/pictures.py [--write]")
+def main() -> int:
+    arguments = argparse.ArgumentParser(
+        description=__doc__, formatter_class=argparse.RawDescriptionHelpFormatter
+    )
+    arguments.add_argument("--write", action="store_true", help="write the graphs and drawings")
+    is_written = arguments.parse_args().write
     if missing_of(["dot"]):
         end_left_out("dot missing")
     graphs = {"crates": run([TOP / "scripts" / "draw-crates"]).decode()}
@@ -164,7 +168,7 @@ def main(arguments: List[str]) -> int:
         leave_out(f"the lattices: {' and '.join(lacking)} missing")
     else:
         graphs.update(lattice_graphs())
-    if arguments:
+    if is_written:
         for name, graph in graphs.items():
             write(name, graph)
     found = [text for name, graph in graphs.items() for text in differences(name, graph)]
@@ -174,4 +178,4 @@ def main(arguments: List[str]) -> int:
     return 1 if found else LEFT_OUT if lacking else 0
 
 
-sys.exit(main(sys.argv[1:]))
+sys.exit(main())

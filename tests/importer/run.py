@@ -14,6 +14,7 @@ tested. Cases that need another user or a file system of their own are left out 
 not have them. Without strace, or where it may not be used, the table of injected errors is left
 out, and the status is 77 if all else is well.
 """
+import argparse
 import os
 import resource
 import shutil
@@ -123,6 +124,10 @@ def check_outside(programs: Path, folder: Path) -> Tuple[List[Optional[int]], Li
 
 
 def main() -> int:
+    arguments = argparse.ArgumentParser(
+        description=__doc__, formatter_class=argparse.RawDescriptionHelpFormatter
+    )
+    arguments.parse_args()
     missing = [str(path) for path in PROGRAMS if not path.exists()]
     if missing:
         print(f"importer: {' and '.join(missing)} not built: nothing was run", file=sys.stderr)

@@ -14,6 +14,7 @@ The archive and the objects of the programs are those in crates/*/out.
 
 Needs: gcc, g++, binutils and libmecab-dev. If one is missing the status is 77.
 """
+import argparse
 import os
 import re
 import sys
@@ -248,9 +249,12 @@ def missing() -> Tuple[str, ...]:
 
 
 def main() -> int:
-    if sys.argv[1:] != ["--built"]:
-        print("usage: tests/packaging/builds.py --built", file=sys.stderr)
-        return 2
+    arguments = argparse.ArgumentParser(
+        description=__doc__, formatter_class=argparse.RawDescriptionHelpFormatter
+    )
+    built = "take the archive and the objects in crates/*/out"
+    arguments.add_argument("--built", action="store_true", required=True, help=built)
+    arguments.parse_args()
     if missing():
         end_left_out(f"{missing()[0]} is missing")
     with tempfile.TemporaryDirectory() as made:

@@ -15,6 +15,7 @@ by name, and leaves what a user added, and MeCab's own library is chosen again. 
 all packages each other file is as before. A package that can't be checked here is reported as left
 out, and the status is 77. Needs: dpkg, and the right to change the root folder.
 """
+import argparse
 import os
 import shutil
 import subprocess
@@ -145,10 +146,12 @@ def check(root: Root, packages: Sequence[str]) -> int:
     return len(chosen)
 
 
-def main(packages: List[str]) -> int:
-    if not packages:
-        print("usage: tests/packaging/debian.py PACKAGE..", file=sys.stderr)
-        return 2
+def main() -> int:
+    arguments = argparse.ArgumentParser(
+        description=__doc__, formatter_class=argparse.RawDescriptionHelpFormatter
+    )
+    arguments.add_argument("packages", nargs="+", metavar="PACKAGE")
+    packages: List[str] = arguments.parse_args().packages
     if shutil.which("dpkg") is None:
         end_left_out("dpkg is missing")
     words = ["chroot", "/", "true"]
@@ -161,4 +164,4 @@ def main(packages: List[str]) -> int:
     return 0 if count == len(CASES) else LEFT_OUT
 
 
-sys.exit(main(sys.argv[1:]))
+sys.exit(main())

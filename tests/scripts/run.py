@@ -101,7 +101,25 @@ MARKDOWN = (
 SCRIPTS = (
     *(f"scripts/{path.name}" for path in sorted((TOP / "scripts").iterdir()) if not path.suffix),
     "tests/run",
+    "tests/cli/all_paths.py",
+    "tests/cli/graphs.py",
+    "tests/docs/manual_pages.py",
+    "tests/docs/pictures.py",
+    "tests/importer/run.py",
+    "tests/packaging/builds.py",
+    "tests/packaging/debian.py",
+    "tests/packaging/fresh_clone",
+    "tests/packaging/lint",
+    "tests/packaging/wheel",
+    "tests/python/dask_clusters",
     ".ci/run",
+)
+# The options, and the status of a script that gets one.
+OPTIONS = (("--help", 0), ("--no-such-option", 2))
+# The scripts, with each option. Those that tests/python/run does not know are pytest's.
+RUNS = (
+    *((name, *option) for name in SCRIPTS for option in OPTIONS),
+    ("tests/python/run", "--help", 0),
 )
 
 
@@ -142,14 +160,11 @@ def errors_of_rules() -> Iterator[str]:
 
 def errors_of_options() -> Iterator[str]:
     """Yields a message for each script that lacks --help or takes an unknown option."""
-    for name in SCRIPTS:
-        for option, expected in (("--help", 0), ("--no-such-option", 2)):
-            done = subprocess.run(
-                [TOP / name, option], stdin=subprocess.DEVNULL, capture_output=True
-            )
-            output = done.stderr if expected else done.stdout
-            if done.returncode != expected or b"usage: " not in output.lower():
-                yield f"{name} {option}: status {done.returncode}, {output[:200]!r}"
+    for name, option, expected in RUNS:
+        done = subprocess.run([TOP / name, option], stdin=subprocess.DEVNULL, capture_output=True)
+        output = done.stderr if expected else done.stdout
+        if done.returncode != expected or b"usage: " not in output.lower():
+            yield f"{name} {option}: status {done.returncode}, {output[:200]!r}"
 
 
 def main() -> int:
@@ -160,7 +175,7 @@ def main() -> int:
     found = [*errors_of_rules(), *errors_of_options()]
     for error in found:
         print(f"scripts: {error}", file=sys.stderr)
-    tables = (SUBJECTS, PATHS, LINKS, OUTPUTS, CHOSEN, MARKDOWN, SCRIPTS, SCRIPTS)
+    tables = (SUBJECTS, PATHS, LINKS, OUTPUTS, CHOSEN, MARKDOWN, RUNS)
     print(f"{sum(map(len, tables))} cases of scripts, {len(found)} errors")
     return 1 if found else 0
 
