@@ -2,14 +2,13 @@
 """Checks the manual pages, and what bash and zsh complete.
 
 mandoc's lint has to accept each page without a message. The page of each program has to name
-exactly the options that the program's `--help` names, with those of its subcommands.
-kumquatsieve-import has a help of one line, and `tests/pjseg/run.py` compares the help of
-kumquatsieve-cut with its page.
+exactly the options that the program's `--help` names, with those of its subcommands. That of
+kumquatsieve-cut is compared by `tests/pjseg/run.py`.
 
 What bash and zsh complete is checked with the tables of tests/cli/completion: the options and
 subcommands that `--help` lists, and no others, and the values of each argument. For
-kumquatsieve-import and kumquatsieve-cut the options are those of the page. On a terminal, names of
-images are put into a line so that the shell reads them as names. The status is 1 if one differs.
+kumquatsieve-cut the options are those of the page. On a terminal, names of images are put into a
+line so that the shell reads them as names. The status is 1 if one differs.
 
 Needs: crates/dictc/out/dictc and crates/jseg/out/jseg, which `rt run` in their folders leaves,
 mandoc and zsh (Debian: mandoc, zsh). Without the programs the status is 2. Without mandoc or zsh
@@ -27,16 +26,17 @@ sys.dont_write_bytecode = True
 TESTS = Path(__file__).resolve().parents[1]
 sys.path[:0] = [str(TESTS), str(TESTS.parent / "importer")]
 from cli.completion.checks import failures as completion_differences  # noqa: E402
-from support.running import LEFT_OUT, TOP, leave_out, program  # noqa: E402
+from support.running import IMPORTER, LEFT_OUT, TOP, leave_out, program  # noqa: E402
 
 PAGES = sorted((TOP / "man").glob("*.[15]"))
 # The arguments with which each program prints a help.
 HELPS = {
     "dictc": [["--help"], ["system", "--help"], ["user", "--help"], ["ids", "--help"]],
     "jseg": [["--help"]],
+    IMPORTER.name: [["--help"]],
 }
-# Programs whose options are those of their pages.
-WITHOUT_HELP = ("kumquatsieve-cut", "kumquatsieve-import")
+# Its options are those of its page, since it is not built here.
+NOT_BUILT = "kumquatsieve-cut"
 
 
 def lint_messages() -> Iterator[str]:
@@ -53,8 +53,12 @@ def lint_messages() -> Iterator[str]:
             yield line
 
 
+def path_of(name: str) -> Path:
+    return IMPORTER if name == IMPORTER.name else program(name)
+
+
 def help_of(name: str, arguments: List[str]) -> str:
-    words = [str(program(name)), *arguments]
+    words = [str(path_of(name)), *arguments]
     return subprocess.run(words, capture_output=True, text=True, check=True).stdout
 
 
@@ -86,7 +90,7 @@ def options_of_page(name: str) -> Set[str]:
 
 def completions() -> List[Tuple[str, Set[str]]]:
     """Returns command lines, each with the words that have to complete it."""
-    found = [(f"{name} -", options_of_page(name)) for name in WITHOUT_HELP]
+    found = [(f"{NOT_BUILT} -", options_of_page(NOT_BUILT))]
     for name, helps in HELPS.items():
         for *subcommand, _ in helps:
             words, text = " ".join([name, *subcommand]), help_of(name, [*subcommand, "--help"])
@@ -109,7 +113,7 @@ def main() -> int:
         description=__doc__, formatter_class=argparse.RawDescriptionHelpFormatter
     )
     arguments.parse_args()
-    missing = [name for name in HELPS if not program(name).exists()]
+    missing = [name for name in HELPS if not path_of(name).exists()]
     if missing:
         print(f"manual: {' and '.join(missing)} not built: nothing was compared", file=sys.stderr)
         return 2
