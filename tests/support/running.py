@@ -10,7 +10,7 @@ TOP = Path(__file__).resolve().parents[2]
 SUPPORT = TOP / "tests" / "support"
 SAMPLE = TOP / "examples" / "sample"
 IMPORTER = TOP / "importer" / "kumquatsieve-import"
-# The static library that `rt ci` or scripts/build-archive leaves.
+# The static library that `rt lib` or scripts/build-archive leaves.
 ARCHIVE = TOP / "crates" / "cutter_c" / "out" / "libcutter_c.a"
 # The exit status of a test that was left out, in whole or in part, because a program is missing.
 LEFT_OUT = 77
