@@ -40,6 +40,7 @@ CASES = (
         is_number=True,
     ),
     Case("Python module", "python/kumquatsieve/__init__.py", r'^__version__ = "(.*)"$'),
+    Case("importer", "importer/kumquatsieve_import/__init__.py", r'^__version__ = "(.*)"$'),
     Case("latest release of the changelog", "CHANGELOG.md", r"^## \[?(\d+\.\d+\.\d+)\]?.*$"),
 )
 
