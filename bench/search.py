@@ -35,10 +35,10 @@ One of these options measures something else instead:
                      They are the same whatever else the machine does. With --library or --nodes
                      those of the library.
 
-Needs: mecab, mecab-dict-index, time, the Japanese manual pages and a quiet machine; for the library
-gcc, python3-mecab and crates/cutter_c/out/libcutter_c.a; for nodes g++ and libmecab-dev; for
-instructions valgrind. A dictionary that is not installed is reported as left out, and so is the
-library.
+Needs: dictc and jseg in crates/*/out, mecab, mecab-dict-index, time, the Japanese manual pages and
+a quiet machine; for the library gcc, python3-mecab and crates/cutter_c/out/libcutter_c.a; for nodes
+g++ and libmecab-dev; for instructions valgrind. A dictionary that is not installed is reported as
+left out, and so is the library.
 """
 import argparse
 from pathlib import Path
