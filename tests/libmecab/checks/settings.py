@@ -94,16 +94,12 @@ class CaseFolder:
         for path in pipes:
             os.mkfifo(path)
         command = ["mecab", "-D", *map(self.expanded, self.case.options)]
-        done = subprocess.run(
-            command,
-            capture_output=True,
-            encoding="utf-8",
-            env=self.environment(),
-            timeout=SECONDS,
-        )
+        # Not as text, which would read a carriage return as a line end.
+        done = subprocess.run(command, capture_output=True, env=self.environment(), timeout=SECONDS)
         for path in installed + pipes:
             path.unlink()
-        return done
+        out, error = done.stdout.decode(), done.stderr.decode()
+        return subprocess.CompletedProcess(command, done.returncode, out, error)
 
     def expected_images(self) -> list[str]:
         """Returns the paths of the images that the program opens."""
