@@ -8,13 +8,14 @@ from repository import DOCUMENT, TOP, files, kind
 
 COLUMNS = 100
 LINK = re.compile(r"\]\(([^)\s]+)\)")
-# A word that is written like a path. The characters before it tell it from a part of another one.
+# A word that is written like a path. The character before it shows that it is no part of a longer
+# one.
 WORD = re.compile(r"(?<![\w./$~<{-])(\.?\w[\w.-]*/[\w./*-]*[\w*/])")
 # A word with one of these suffixes is a path of a file, in whichever folder.
 SOURCE = (".py", ".rt", ".antt", ".md", ".c", ".h", ".edit", ".in")
 # A folder that was moved, so that a path in it is an old one.
 MOVED = "tools"
-# A part of a path that stands for any name.
+# A part of a path that is a placeholder for any name.
 PLACEHOLDER = re.compile(r"^[A-Z_]+(?=$|\.(?!md))")
 
 

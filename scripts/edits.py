@@ -27,7 +27,7 @@ class Mutant(NamedTuple):
     name: str
     # The files that it changes, with the change.
     texts: Texts
-    # The function that has all its changes, if there is one.
+    # The function that has all its changes, but those of proofs, if there is one.
     place: Optional[Place]
 
 
@@ -84,20 +84,20 @@ def read_all(names: Sequence[str]) -> int:
 
 
 def span(old: str, new: str) -> Tuple[int, int, str]:
-    """Returns where a text was changed.
-
-    These are the start and the end of the changed part of `old`, and its replacement in `new`.
-    """
+    """Returns the start and the end of the part of `old` that was changed, and its replacement in
+    `new`."""
     start = len(os.path.commonprefix([old, new]))
     same = len(os.path.commonprefix([old[start:][::-1], new[start:][::-1]]))
     return start, len(old) - same, new[start : len(new) - same]
 
 
 def place_of(crate: Path, texts: Texts) -> Optional[Place]:
-    """Returns the innermost function that has all changes, or None if there is none."""
-    if len(texts) != 1:
+    """Returns the innermost function that has all changes but those of proofs, or None if there is
+    none."""
+    code = [(path, text) for path, text in texts.items() if not path.startswith("proofs/")]
+    if len(code) != 1:
         return None
-    ((path, new),) = texts.items()
+    ((path, new),) = code
     old, found = (crate / path).read_text(), None
     start, end, _ = span(old, new)
     for head in HEAD.finditer(old):

@@ -1,51 +1,47 @@
-"""Verdicts of the prover on mutants of a crate, by checks of a copy with their changes."""
-import re
+"""Verdicts of the prover on mutants of a crate, by checks of a copy with their changes.
+
+A mutant of a function is
+
+- rejected if a goal of the function fails. A goal without an answer fails if no tactic proves it,
+  unless an answer is for a goal that is gone and may be this one under another name. A goal with
+  an answer fails if the answer no longer proves it, though all that the answer names exists, and
+  no tactic proves it without the answer.
+- 'proof broke' if the function is not proved and no goal fails. Then only something is gone that
+  was written by hand: a name in an answer, its goal, a lemma, an invariant, or the proof of a
+  whole function, which follows its code. This says nothing of the contract.
+- accepted if the function is proved, once each broken answer is taken out.
+
+A goal that fails need not be false: an answer whose names now mean other steps, or a new path
+through the body that needs an answer of its own, counts against the mutant. So a verdict names
+the goals.
+"""
 import shutil
 import subprocess
 import tempfile
 from pathlib import Path
-from typing import Any, Dict, List, Optional, Sequence, Set, Tuple
+from typing import Any, Collection, Dict, List, Optional, Sequence, Tuple, Union
 
 from edits import Mutant, Place, Texts, all_changed
+from reports import JUDGED, Broken, Report, broken_answers, failed_goals, is_file, reports, without
 
-# Lines of a check: its verdict on a function; that a function is not proved because of one that it
-# calls; a goal; an error in a file of a proof; and an error that only says that a name is gone.
-JUDGED = re.compile(r"^fn (\S+): (.*)$")
-CALLS = "no proof: it calls"
-GOAL = re.compile(r"^note: \S+:\d+:\d+: ")
-IN_PROOF = re.compile(r"^(?:\./)?proofs/(\S+)/\w+\.antt:\d+:\d+: error: (.*)$")
-GONE = re.compile(r"has no field|is not in scope|has no `|was not admitted")
+# A check's words on a function that is proved, and on one that is not because of what it calls.
+PROVED, CALLS = "proved", "no proof: it calls"
 # Verdicts on a mutant. A text of another form says why there is none.
-REFUSED, PROVED = "refused", "proved"
-ONLY_A_NAME = "refused, perhaps only for a name that is gone"
-# Of each function, the check's words, and whether they name an unproved goal or a broken step.
-Judged = Dict[str, Tuple[str, bool]]
+REJECTED, BROKE, ACCEPTED = "rejected", "proof broke", "accepted"
+# How many names a verdict has at most.
+NAMED = 3
+# A verdict; the mutant with fewer answers, to be tried again; or None if nothing is known.
+Judgment = Union[str, Mutant, None]
 
 
-def judged(output: str) -> Judged:
-    """Returns what a check printed about each function.
-
-    The second value is whether it named a goal of the function that is not proved, or a step of its
-    proof that no longer holds.
-    """
-    lines: Dict[str, Tuple[str, bool]] = {}
-    broken: Set[str] = set()
-    has_goal = False
-    for line in output.splitlines():
-        found, in_proof = JUDGED.match(line), IN_PROOF.match(line)
-        if found:
-            lines[found[1]] = found[2], has_goal
-        if in_proof and not GONE.search(in_proof[2]):
-            broken.add(in_proof[1])
-        has_goal = not found and (has_goal or bool(GOAL.match(line)))
-    return {
-        symbol: (line, goal or "/".join(symbol.split("::")[1:]) in broken)
-        for symbol, (line, goal) in lines.items()
-    }
+def listed(names: Collection[str]) -> str:
+    """Returns the first of some names, and how many more there are."""
+    more = f" and {len(names) - NAMED} more" if len(names) > NAMED else ""
+    return ", ".join(list(names)[:NAMED]) + more
 
 
 class Crate:
-    """A crate whose mutants are judged in a copy, over what its earlier checks left."""
+    """A crate whose mutants are checked in a copy that keeps the results of earlier checks."""
 
     def __init__(self, rtlib: Any, crate: Any, room: Path) -> None:
         self.rtlib, self.crate, self.room = rtlib, crate, room
@@ -53,6 +49,8 @@ class Crate:
         self.folder = Path(crate.folder)
         # The functions, as the prover names them.
         self.symbols: List[str] = []
+        # The broken answers that were found, of each mutant and file of answers.
+        self.broken: Dict[Tuple[str, str], Broken] = {}
         kept = self.folder / "out" / "incremental"
         if kept.is_dir():
             shutil.copytree(kept, self.room / "kept")
@@ -106,29 +104,56 @@ class Crate:
         others = [symbol for symbol in self.symbols if symbol.endswith(f"::{place.name}")]
         return found or (others if len(others) == 1 else [])
 
-    def judge_together(self, mutants: Sequence[Mutant]) -> Dict[str, Optional[str]]:
-        """Judges mutants of different functions by one check. None: it says nothing of a mutant."""
+    def judge_together(self, mutants: Sequence[Mutant]) -> Dict[str, Judgment]:
+        """Judges mutants of different functions by one check."""
         symbols = [symbol for mutant in mutants for symbol in self.symbols_of(mutant.place)]
-        lines = judged(self.check(all_changed(self.folder, mutants), symbols)[1])
-        return {mutant.name: self.verdict(mutant, lines) for mutant in mutants}
+        found = reports(self.check(all_changed(self.folder, mutants), symbols)[1])
+        judgments: Dict[str, Judgment] = {}
+        for mutant in mutants:
+            names = [name for name in self.symbols_of(mutant.place) if name in found]
+            judgments[mutant.name] = self.judgment(mutant, [found[name] for name in names])
+        return judgments
 
-    def verdict(self, mutant: Mutant, lines: Judged) -> Optional[str]:
-        """Returns the verdict of a check on a mutant, or None if it says nothing of it."""
-        ours = [lines[symbol] for symbol in self.symbols_of(mutant.place) if symbol in lines]
-        goals = [goal for line, goal in ours if not line.startswith((PROVED, CALLS))]
-        if goals:
-            return REFUSED if any(goals) else ONLY_A_NAME
-        return PROVED if ours and all(line.startswith(PROVED) for line, _ in ours) else None
+    def judgment(self, mutant: Mutant, found: Sequence[Report]) -> Judgment:
+        """Judges a mutant by what a check printed about the functions that it may change."""
+        unproved = [report for report in found if not report.words.startswith((PROVED, CALLS))]
+        if not unproved:
+            is_proved = found and all(report.words.startswith(PROVED) for report in found)
+            return ACCEPTED if is_proved else None
+        fewer: Texts = {}
+        failed: List[str] = []
+        why: List[str] = []
+        for report in unproved:
+            text = self.answers(mutant, report)
+            broken = broken_answers(report, text)
+            # The answers that were taken out before stay known.
+            known = self.broken.setdefault((mutant.name, report.answers), {})
+            known.update(broken)
+            failed += failed_goals(report, known)
+            why += [f"{name} {reason}" for name, reason in known.items()]
+            if broken and not any(map(is_file, known)):
+                fewer[report.answers] = without(text, broken)
+        if failed:
+            return f"{REJECTED}: {listed(failed)}"
+        if fewer:
+            return mutant._replace(texts={**mutant.texts, **fewer})
+        return f"{BROKE}: {listed(why)}" if why else None
+
+    def answers(self, mutant: Mutant, report: Report) -> str:
+        """Returns the text of a function's answers, or an empty one if it has none."""
+        path = self.folder / report.answers
+        return mutant.texts.get(report.answers) or (path.read_text() if path.is_file() else "")
 
     def judge_alone(self, mutant: Mutant) -> str:
-        """Returns the verdict of a check of the whole crate, or why the mutant can't be judged."""
+        """Returns the verdict of checks of the whole crate, or why there is none."""
         status, output = self.check(mutant.texts)
         lines = output.rstrip().splitlines() or [""]
         if status == 0:
-            return PROVED
+            return ACCEPTED
         if status == 1 and lines[-1].startswith("logic=not-proved"):
-            in_proofs = [found for found in map(IN_PROOF.match, lines) if found]
-            is_step = any(not GONE.search(found[2]) for found in in_proofs)
-            return REFUSED if is_step or any(map(GOAL.match, lines)) else ONLY_A_NAME
+            judgment = self.judgment(mutant, [*reports(output).values()])
+            if isinstance(judgment, Mutant):
+                return self.judge_alone(judgment)
+            return judgment or f"{BROKE}: no function's own proof"
         reason = next((line for line in lines if "error" in line), lines[0])
         return f"it did not reach the prover: {reason[:200]}"

@@ -1,4 +1,5 @@
--- What the walks of the block's two functions share: a `FreeToken` as the machine has it, and what runs after a part of a body. Assumes `Logic`.
+-- Lemmas that the proofs of both functions of the block share: a `FreeToken` in the machine, and
+-- what runs after a part of a body. Assumes `Logic`.
 use Rattle.std.proofs.Common.{◌≡◌, List, [], ◌∷◌, ◌++◌, refl, ◌∙◌}
 use seplogic.Ra.Ura.{Ura}
 use mir.Syntax.{Body}
@@ -12,7 +13,7 @@ use denote.RattleType.{RattleType}
 use denote.Shadow.{shadow, makes_shadow}
 use denote.Struct.Struct.{Struct}
 
--- a struct by its fields alone: what it owns doesn't read its name
+-- a struct by its fields alone: its ownership does not depend on its name
 abbrev plain_struct : List RattleType → RattleType
 plain_struct fields = Struct (record { name = []; args = []; types = []; fields = fields })
 
@@ -20,12 +21,12 @@ plain_struct fields = Struct (record { name = []; args = []; types = []; fields 
 abbrev pub token_val : Val
 token_val = vstruct (vcons (vstruct vnil) vnil)
 
--- what its one field owns
+-- the ownership of its one field
 abbrev pub mark_own : List Val → Fml
 mark_own = (plain_struct (plain_struct [] ∷ [])).own_val (tt, tt)
 
 pub mark_told : (vs : List Val) → shadow (mark_own vs) → vs ≡ token_val ∷ []
-mark_told vs told = told.1.0 ∙ (λ i. vstruct (of_list (told.1.1.0.1.0 i ++ [])) ∷ [])
+mark_told vs reported = reported.1.0 ∙ (λ i. vstruct (of_list (reported.1.1.0.1.0 i ++ [])) ∷ [])
 
 pub mark_made : {M : Type 1} {𝓤 : Ura M} (𝓛 : Logic 𝓤) → ent 𝓤 (emp 𝓤) (sem 𝓛 (mark_own (token_val ∷ [])))
 mark_made 𝓛 = makes_shadow 𝓛 (mark_own (token_val ∷ [])) (λ _. (tt, ((λ _. (tt, tt)), tt))) ((vstruct vnil ∷ [], tt), (refl, ((tt, (refl, tt)), tt)))

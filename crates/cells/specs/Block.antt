@@ -1,4 +1,4 @@
--- What the right to give a block back is.
+-- The token that permits freeing a block.
 use Rattle.std.specs.Prelude.{ℕ}
 use base.Fml.{Fml}
 use denote.RattleType.{RattleType}
@@ -7,6 +7,6 @@ use denote.RawPtr.{Ptr}
 use mir.Syntax.{Ty, ty_array}
 use mir.Raw.{raw}
 
--- the allocator's token for the block at p, which has n places for values of R
+-- the allocator's token for the block at p, which has n slots for values of R
 abbrev pub block_token : RattleType → (Ty → Ptr → Fml) → Ptr → ℕ → Fml
 block_token R token p n = token (raw (ty_array (lone R.mir) n)) p

@@ -1,3 +1,3 @@
 pub mod Block
 pub mod Cells
-pub mod Held
+pub mod CellBlock

@@ -1,8 +1,9 @@
-//! The block of raw memory: taken from an allocator, and given back to it. No other file has a raw pointer.
+//! Allocation and deallocation of the block of raw memory. No other file of the crate uses a raw
+//! pointer.
 ghost use Rattle.std.specs.Prelude.{◌≡◌, IfOk};
 ghost use Rattle.std.specs.Vec.Ownership.{FitsInBlock};
 ghost use Rattle.core.specs.Mem.Slots.{slots_len};
-ghost use Rattle.cells.specs.Held.{IsTokenOf};
+ghost use Rattle.cells.specs.CellBlock.{IsTokenOf};
 
 use crate::token::FreeToken;
 use core::slots::Slots;
@@ -10,8 +11,8 @@ use std::alloc::{AllocError, Allocator};
 use std::marker::PhantomData;
 use std::mem::{align_of, size_of};
 
-/// A new block, as a row of empty places. `_like` only shows that the type has a value.
-pub(crate) fn take_block<T, A: Allocator>(
+/// Allocates a block of `places` empty slots. `_like` only shows that the type `T` has a value.
+pub(crate) fn allocate_block<T, A: Allocator>(
     alloc: &A,
     places: usize,
     _like: &T,
@@ -26,12 +27,12 @@ pub(crate) fn take_block<T, A: Allocator>(
             let mark = PhantomData;
             Ok((row, FreeToken { mark }))
         }
-        Err(refused) => Err(refused),
+        Err(rejected) => Err(rejected),
     }
 }
 
-/// Gives the block back to the allocator that it came from. The values in it are forgotten.
-pub(crate) fn give_block<T, A: Allocator>(alloc: &A, row: Slots<T>, token: FreeToken<T, A>)
+/// Returns a block to the allocator that it came from. The values in it are not dropped.
+pub(crate) fn free_block<T, A: Allocator>(alloc: &A, row: Slots<T>, token: FreeToken<T, A>)
     requires { IsTokenOf token row alloc.now }
 {
     let FreeToken { mark: _ } = token;

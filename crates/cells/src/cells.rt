@@ -2,9 +2,9 @@
 ghost use Rattle.std.specs.Prelude.{◌≡◌, ℤ, ◌-◌, ◌≤◌, ◌<◌, ◌++◌, List, length, take, slice_get, slice_set, Some, IsOk, IfOk, OnOk, OnErr};
 ghost use Rattle.core.specs.Mem.Slots.{slots_items};
 ghost use Rattle.cells.specs.Cells.{free_cells};
-ghost use Rattle.cells.specs.Held.{IsHeld};
+ghost use Rattle.cells.specs.CellBlock.{IsCellBlock};
 
-use crate::block::{give_block, take_block};
+use crate::block::{allocate_block, free_block};
 use crate::row::{fill, move_to_block};
 use crate::token::FreeToken;
 use core::slots::Slots;
@@ -12,13 +12,13 @@ use std::alloc::{AllocError, Global};
 use std::marker::Model;
 use std::mem::replace;
 
-/// The most cells of one list. This project's own choice.
+/// The maximum number of cells of one list. (This project's own choice)
 pub const CELLS_MAX: usize = 1 << 30;
 
-/// What a cell holds that was never set: base 0, check -1.
+/// The contents of a cell that was never set: base 0, check -1.
 const FREE: (i32, i32) = (0, -1);
 
-/// Cells of 8 bytes, side by side in one block, which is given back at drop.
+/// Cells of 8 bytes each, stored contiguously in one block, which is freed on drop.
 pub struct Cells {
     length: usize,
     row: Slots<(i32, i32)>,
@@ -31,17 +31,17 @@ impl Model for Cells {
 
     ghost view = { λ c. take c.length (slots_items c.row) };
 
-    ghost invariant = { λ c. IsHeld c.length c.row c.token c.alloc };
+    ghost invariant = { λ c. IsCellBlock c.length c.row c.token c.alloc };
 }
 
 impl Cells {
-    /// `n` free cells.
+    /// Allocates `n` free cells.
     pub fn new(alloc: Global, n: usize) -> Result<Cells, AllocError>
         requires some { 1 ≤ n }
         requires few { n ≤ CELLS_MAX }
         ensures { IfOk result (λ cells. cells ≡ free_cells n) }
     {
-        let (mut row, token) = take_block(&alloc, n, &FREE)?;
+        let (mut row, token) = allocate_block(&alloc, n, &FREE)?;
         fill(&mut row, 0, n, FREE);
         Ok(Cells {
             length: n,
@@ -51,7 +51,7 @@ impl Cells {
         })
     }
 
-    /// How many cells there are.
+    /// Returns the number of cells.
     pub fn len(&self) -> usize
         ensures length { result ≡ length self.now }
         ensures few { result ≤ CELLS_MAX }
@@ -59,7 +59,7 @@ impl Cells {
         self.length
     }
 
-    /// The base and the check of a cell.
+    /// Returns the base and the check of cell `i`.
     pub fn get(&self, i: usize) -> (i32, i32)
         requires { i < length self.now }
         ensures { slice_get self.now i ≡ Some result }
@@ -67,7 +67,7 @@ impl Cells {
         *self.row.get(i)
     }
 
-    /// Puts a base and a check into a cell.
+    /// Sets the base and the check of cell `i`.
     #[tactic(auto, using(crate::proofs::CellLemmas::set_within))]
     pub fn set(&mut self, i: usize, base: i32, check: i32)
         requires { i < length self.old }
@@ -76,20 +76,22 @@ impl Cells {
         self.row.put(i, (base, check));
     }
 
-    /// Appends free cells, up to `n` cells in all. Called for one more cell at a time, it takes a block only now and then. A
-    /// block has at most twice as many places as there are cells.
+    /// Appends free cells up to a total of `n` cells. On an error nothing changes.
+    ///
+    /// A block that has to grow at least doubles, up to `CELLS_MAX` slots. So adding cells one at a
+    /// time allocates rarely, and the block has room for at most twice as many cells as there are.
     pub fn grow(&mut self, n: usize) -> Result<(), AllocError>
         requires more { length self.old ≤ n }
         requires few { n ≤ CELLS_MAX }
         ensures appended { OnOk result (self.new ≡ self.old ++ free_cells (n - length self.old)) }
-        ensures kept { OnErr result (self.new ≡ self.old) }
+        ensures unchanged { OnErr result (self.new ≡ self.old) }
         ensures present { n ≡ length self.old → IsOk result }
     {
         if self.row.len() < n {
             let places = n.max(self.row.len().saturating_mul(2).min(CELLS_MAX));
             let (row, token) = move_to_block(&self.alloc, &mut self.row, self.length, places)?;
             let old = replace(&mut self.row, row);
-            give_block(&self.alloc, old, replace(&mut self.token, token));
+            free_block(&self.alloc, old, replace(&mut self.token, token));
         }
         fill(&mut self.row, self.length, n, FREE);
         self.length = n;
@@ -105,6 +107,6 @@ impl Drop for Cells {
             token,
             alloc,
         } = self;
-        give_block(&alloc, row, token);
+        free_block(&alloc, row, token);
     }
 }

@@ -1,16 +1,16 @@
-//! Runs of places of a block: filled with one value, or moved to a larger block.
+//! Runs of slots of a block: filled with one value, or moved to a larger block.
 ghost use Rattle.std.specs.Prelude.{◌≡◌, ◌-◌, ◌≤◌, ◌<◌, ◌++◌, take, replicate, IfOk, OnErr};
 ghost use Rattle.core.specs.Mem.Slots.Ownership.{Filled};
 ghost use Rattle.core.specs.Mem.Slots.{slots_len, slots_items, slots_filled, SamePlaces};
-ghost use Rattle.cells.specs.Held.{IsTokenOf};
+ghost use Rattle.cells.specs.CellBlock.{IsTokenOf};
 ghost use Rattle.cells.specs.declared.cells.TheConstants.{CELLS_MAX as CellsMax};
 
-use crate::block::take_block;
+use crate::block::allocate_block;
 use crate::token::FreeToken;
 use core::slots::Slots;
 use std::alloc::{AllocError, Global};
 
-/// Puts the pair into each place from `from` up to `to`.
+/// Stores `pair` in the slots from `from` to `to`.
 pub(crate) fn fill(row: &mut Slots<(i32, i32)>, from: usize, to: usize, pair: (i32, i32))
     requires { (from ≤ to) × (to ≤ slots_len row.old) × Filled (slots_filled row.old) 0 from }
     ensures items { take to (slots_items row.new)
@@ -25,7 +25,7 @@ pub(crate) fn fill(row: &mut Slots<(i32, i32)>, from: usize, to: usize, pair: (i
     }
 }
 
-/// A new block that begins with the first `count` pairs of the row, which leave it.
+/// Allocates a block of `places` slots, and moves the first `count` pairs of `row` to its start.
 pub(crate) fn move_to_block(
     alloc: &Global,
     row: &mut Slots<(i32, i32)>,
@@ -40,9 +40,9 @@ pub(crate) fn move_to_block(
     ensures block { IfOk result (λ block. (slots_len block.0 ≡ places)
         × IsTokenOf block.1 block.0 alloc.now) }
     ensures same { SamePlaces row.old row.new }
-    ensures kept { OnErr result (row.new ≡ row.old) }
+    ensures unchanged { OnErr result (row.new ≡ row.old) }
 {
-    let (mut block, token) = take_block(alloc, places, &(0, 0))?;
+    let (mut block, token) = allocate_block(alloc, places, &(0, 0))?;
     row.move_run(0, &mut block, 0, count);
     Ok((block, token))
 }

@@ -1,4 +1,4 @@
-//! The right to give a block of memory back.
+//! The token that permits freeing a block of memory.
 ghost use Rattle.std.specs.Prelude.{ℕ};
 ghost use denote.RawPtr.{Ptr};
 ghost use Rattle.cells.specs.Block.{block_token};
@@ -6,7 +6,7 @@ ghost use Rattle.cells.specs.Block.{block_token};
 use std::alloc::Allocator;
 use std::marker::{Model, PhantomData};
 
-/// The allocator's token for one block. It takes no space, and only giving the block back ends it.
+/// The allocator's token for one block. It has no size, and it ends only when the block is freed.
 pub(crate) struct FreeToken<T, A: Allocator> {
     pub(crate) mark: PhantomData<*const (T, A)>,
     ghost start: { Ptr },

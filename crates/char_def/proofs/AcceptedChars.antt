@@ -1,4 +1,5 @@
--- An image may hold what an accepted `char.def` says: its categories, and the categories of each code point.
+-- An image can hold the contents of an accepted `char.def`: its categories, and the categories of
+-- each code point.
 use Rattle.std.proofs.Common.{◌≡◌, ℕ, ◌^◌, ◌<◌, ◌≤◌, max, ℤ, pos, negsuc, nat_abs, int_le, Bool, true, false, cond, ◌&&◌, List, [], ◌∷◌, length, flat_map, fold, find, reverse, bit_or, nat_le, nat_lt, sym, refl, ◌∙◌, arith, subst, zero, suc, ◌+◌, not, get_or, ap}
 use Rattle.std.specs.Prelude.{Option, Some, None, Ok, IfSome, All, option_and_then, option_map, Result, Err}
 use Rattle.std.specs.Int.{bit_at}
@@ -15,7 +16,7 @@ use Rattle.mj_model.specs.declared.category.Category.{Category}
 use Rattle.mj_model.specs.declared.category.CharInfo.{CharInfo}
 use Rattle.mj_model.specs.declared.limits.TheConstants.{CATEGORIES_MAX}
 use Rattle.mj_model.specs.Bytes.{is_blank}
-use Rattle.mj_model.specs.CharDef.{IsInfoOf, IsStorable, NamedCategory, CharSource, Mapping, Range, CharLine, Nothing, Defines, Maps, Bad, begins_with_hex, words_before_comment, char_line, line_from, mapping_line, mapping_or, range_of, category_or, category_from, category_of, category_length, flag, category_named, is_name, defined_by, mapped_by, is_defined, category_number, category_bits, mapping_fault, default_name, space_name, unless_defined, source_from, whole_fault, char_source, first_bad_line, info_of_names, covers, char_info, is_named, source_unless}
+use Rattle.mj_model.specs.CharDef.{IsInfoOf, IsStorable, NamedCategory, CharSource, Mapping, Range, CharLine, Nothing, Defines, Maps, Bad, starts_with_hex, words_before_comment, char_line, line_from, mapping_line, mapping_or, range_of, category_or, category_from, category_of, category_length, flag, category_named, is_name, defined_by, mapped_by, is_defined, category_number, category_bits, mapping_fault, default_name, space_name, unless_defined, source_from, whole_fault, char_source, first_bad_line, info_of_names, covers, char_info, is_named, source_unless}
 use Rattle.mj_model.specs.Connection.{words_of}
 use Rattle.mj_model.specs.FirstFault.{first_fault, fault_or}
 use Rattle.mj_model.specs.Lines.{numbered_lines}
@@ -45,7 +46,7 @@ number_within cs name h =
     let a = Any-from_list_any (is_named name) cs h in
     below_position (is_named name) cs a.0 a.1 a.2 a.3 a.4
 
--- ---- nothing is at fault
+-- ---- there is no error
 
 defined_by_none : (cs : List NamedCategory) (name : List ℕ) (kind : SourceKind) (b : Bool) → is_defined cs name ≡ b → cond b None (Some (let f : SourceFault = record { file = 1; line = 0; kind = kind } in f)) ≡ None → is_defined cs name ≡ true
 defined_by_none cs name kind true e h = e
@@ -67,7 +68,7 @@ accepted_by : (fault : Option SourceFault) (read source : CharSource) → source
 accepted_by None read source h = (refl, ap (source_or read) h)
 accepted_by (Some fault) read source h = absurd (cc)
 
--- ---- what a category line defines
+-- ---- the category of a category line
 
 within_by : (high : ℕ) (z : ℤ) (b : Bool) → (int_le (pos 0) z && int_le z (pos high)) ≡ b → IfSome (option_map nat_abs (cond b (Some z) None)) (λ n. n ≤ high)
 within_by high (pos n) true e = leb-true n high (and_parts (int_le (pos 0) (pos n)) (int_le (pos n) (pos high)) e).1
@@ -107,7 +108,7 @@ from_words (name ∷ invoke ∷ []) some = tt
 from_words (name ∷ invoke ∷ group ∷ []) some = tt
 from_words (name ∷ invoke ∷ group ∷ len ∷ more) some = storable_by name invoke group len (is_name name) some.0 refl
 
--- ---- what a line defines
+-- ---- the category of a line
 
 defined_or : (found : Option NamedCategory) → IfSome found IsStorable → All IsStorable (defined_by (category_or found))
 defined_or None h = All-nil IsStorable
@@ -131,7 +132,7 @@ line_by word words false some = defined_or (category_from (word ∷ words)) (fro
 
 line_defines : (words : List (List ℕ)) → AreWords words → All IsStorable (defined_by (line_from words))
 line_defines [] some = All-nil IsStorable
-line_defines (word ∷ words) some = line_by word words (begins_with_hex word) some
+line_defines (word ∷ words) some = line_by word words (starts_with_hex word) some
 
 words_some : (line : List ℕ) → AreWords (words_before_comment line)
 words_some line =
@@ -145,7 +146,7 @@ lines_define (line ∷ lines) =
     All-append IsStorable (defined_by (char_line line.1)) (source_from lines).categories
     (line_defines (words_before_comment line.1) (words_some line.1)) (lines_define lines)
 
--- an image may hold the categories of an accepted `char.def`
+-- an image can hold the categories of an accepted `char.def`
 pub storable : (bytes : List ℕ) (source : CharSource) → char_source bytes ≡ Ok source → All IsStorable source.categories
 storable bytes source h =
     let lines = numbered_lines bytes in
@@ -239,7 +240,7 @@ infos_of_lines lines code h =
     found_fits cs code (reverse (source_from lines).mappings) (defined_by_none cs default_name NoDefault (is_defined cs default_name) refl a.0)
     (all_reversed (HasDefined cs) (source_from lines).mappings (lines_map cs lines b.1))
 
--- an image may hold the categories that an accepted `char.def` gives a code point
+-- an image can hold the categories that an accepted `char.def` gives to a code point
 pub infos_fit : (bytes : List ℕ) (source : CharSource) → char_source bytes ≡ Ok source → (code : ℕ) → IsInfoOf (length source.categories) (char_info source code)
 infos_fit bytes source h code =
     let lines = numbered_lines bytes in
@@ -247,7 +248,7 @@ infos_fit bytes source h code =
     let none = no_or (first_bad_line [] lines) (whole_fault (source_from lines).categories lines) ok.0 in
     subst (λ (s : CharSource). IsInfoOf (length s.categories) (char_info s code)) ok.1 (infos_of_lines lines code none.1)
 
--- ---- of a table of an accepted `char.def`
+-- ---- the table of an accepted `char.def`
 
 pub table_storable : (bytes : List ℕ) (source : CharSource) (table : CharCategories) → char_source bytes ≡ Ok source → IsTableOf source table → All IsStorable table.categories
 table_storable bytes source table h is = subst (All IsStorable) (sym is.categories) (storable bytes source h)
@@ -258,7 +259,7 @@ table_infos_fit bytes source table h is code =
     subst (λ (i : CharInfo). IsInfoOf (length table.categories) i) (sym (is.infos code))
     (subst (λ (cs : List NamedCategory). IsInfoOf (length cs) (char_info source code)) (sym is.categories) (infos_fit bytes source h code))
 
--- what holds of the table
+-- the invariants of the table
 pub table_formed : (bytes : List ℕ) (source : CharSource) (table : CharCategories) → char_source bytes ≡ Ok source → IsTableOf source table → length table.categories ≤ CATEGORIES_MAX → IsCategoryTable table
 table_formed bytes source table h is few =
     let infos = table_infos_fit bytes source table h is in

@@ -32,7 +32,7 @@ filled_if : (unknown rows : List (List Row)) (b : Bool) → nat_lt (first_withou
 filled_if unknown rows true e h = absurd (cc)
 filled_if unknown rows false e h = filled rows (ltb-false (first_without_rows rows) (length rows) e)
 
--- ---- no row stands in two categories
+-- ---- no row is in two categories
 
 abbrev total : (Row → ℕ) → ℕ → List NamedCategory → List Row → ℕ
 total number n categories rows = sum_by length (rows_from number n categories rows)

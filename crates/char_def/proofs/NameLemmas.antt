@@ -39,7 +39,7 @@ has_no_number (x ∷ xs) name n before all = list_any_none (is_named name) (defi
     let long : length (definitions_are (x ∷ xs)) ≡ length (x ∷ xs) = length-map (x ∷ xs) definition_is in
     ap (is_named name) (get_or-map definition_is (x ∷ xs) k x d (omega arith)) ∙ before k x (omega arith))
 
--- the names that are left, behind one that is defined
+-- the remaining names, after one that is defined
 pub defined_later : (categories : List NamedCategory) (names rest : List (List ℕ)) (name : List ℕ) → names ≡ name ∷ rest → is_defined categories name ≡ true
     → list_all (is_defined categories) names ≡ list_all (is_defined categories) rest
 defined_later categories names rest name is defined = ap (list_all (is_defined categories)) is ∙ ap (λ (b : Bool). b && list_all (is_defined categories) rest) defined

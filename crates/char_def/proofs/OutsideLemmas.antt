@@ -1,4 +1,4 @@
--- The least line of the rows that lie outside.
+-- The least line of the rows whose ids lie outside.
 use Rattle.std.proofs.Common.{◌≡◌, ℕ, ◌+◌, ◌<◌, ◌≤◌, Bool, true, false, cond, List, [], ◌∷◌, ◌++◌, length, map, take, get_or, filter, refl, sym, ap, ◌∙◌, subst, arith, append_assoc, take_all, min, Option, inl, inr}
 use Rattle.std.specs.List.{AllByRecursion}
 use Rattle.std.specs.declared.alloc.Global.{Global}
@@ -45,7 +45,7 @@ least_min xs n line h = elim (cases_lt line n) [
 pub least_first : (xs : List ℕ) (line : ℕ) → xs ≡ [] → IsLeast (xs ++ line ∷ []) line
 least_first xs line h = subst (λ (ys : List ℕ). IsLeast (ys ++ line ∷ []) line) (sym h) (record { is_one = inl refl; none_below = (omega arith, tt) })
 
--- ---- records that are looked at one after another
+-- ---- records one after another
 
 line_by : (b : Bool) (row : Row) → map (λ (r : Row). r.line) (cond b (row ∷ []) []) ≡ cond b (row.line ∷ []) []
 line_by true row = refl
@@ -58,7 +58,7 @@ outside_one sizes xs row = ap (map (λ (r : Row). r.line)) (filter-append (is_ou
 rows_more : (records : List Record) (i : ℕ) (r : Record) → i < length records → r ≡ get_or records i r → rows_of (take (i + 1) records) ≡ rows_of (take i records) ++ row_of r ∷ []
 rows_more records i r low is = ap rows_of (take_more records i r low) ∙ map-append row_of (take i records) (get_or records i r ∷ []) ∙ ap (λ (x : Record). rows_of (take i records) ++ row_of x ∷ []) (sym is)
 
--- the lines so far, and those of one record more
+-- the lines so far, and those of one more record
 lines_more : (sizes : MatrixSizes) (before : List ℕ) (records : List Record) (i : ℕ) (r : Record) → i < length records → r ≡ get_or records i r
     → before ++ lines_outside sizes (rows_of (take (i + 1) records)) ≡ (before ++ lines_outside sizes (rows_of (take i records))) ++ cond (is_outside sizes (row_of r)) (r.line ∷ []) []
 lines_more sizes before records i r low is =

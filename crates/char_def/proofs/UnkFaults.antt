@@ -1,4 +1,5 @@
--- The first fault of `unk.def`: what its lines say, then a category without a line, then the first line whose ids lie outside.
+-- The first error of `unk.def`: that of its lines, then a category without a line, then the first
+-- line whose ids lie outside.
 use Rattle.std.proofs.Common.{◌≡◌, ℕ, zero, suc, ◌+◌, ◌<◌, ◌≤◌, ◌^◌, Bool, true, false, cond, List, [], ◌∷◌, length, get_or, map, filter, refl, sym, ap, ◌∙◌, subst, arith, Option, Some, None, inl, inr}
 use Rattle.std.specs.Prelude.{Result, Ok, Err, ◌==◌, nat_lt, not}
 use Rattle.std.specs.List.{AllByRecursion, enumerate_from}
@@ -10,10 +11,10 @@ use Rattle.mj_model.specs.CharDef.{NamedCategory, is_defined, category_number}
 use Rattle.mj_model.specs.declared.matrix_sizes.MatrixSizes.{MatrixSizes}
 use Rattle.mj_model.specs.Connection.{is_pair}
 use Rattle.mj_model.specs.Dictionary.{first_outside}
-use Rattle.mj_model.specs.FirstFault.{IsRefusal}
-use Rattle.mj_model.specs.Lists.{StandsIn}
+use Rattle.mj_model.specs.FirstFault.{IsMemoryOr}
+use Rattle.mj_model.specs.Lists.{IsMember}
 use Rattle.mj_model.specs.Lexicon.{Row, Accepted, Refused, row_from, Reading, ReadsAs}
-use Rattle.mj_model.specs.UnkDef.{accept_defined, unk_outcome, rows_named, rows_by_category, first_without_rows, unknown_from, IsUnkDef, rows_or, unless_outside, IsUnkWithin}
+use Rattle.mj_model.specs.UnkDef.{accept_defined, unk_outcome, rows_named, rows_by_category, first_without_rows, unknown_from, IsUnkDef, rows_or, check_outside, IsUnkWithin}
 use Rattle.mj_model.proofs.AcceptedRows.{IsRowOf, OnRow, OnAccepted, row_is, LinesRise, AreReadRows, rows_read}
 use Rattle.mj_model.proofs.Members.{in_map, map_in, in_filter, filter_in, in_flat_map, flat_map_in, each_holds, none_stands, holds_in}
 use Rattle.char_def.specs.Outside.{is_outside, lines_outside, all_lines_outside, IsLeast}
@@ -40,39 +41,39 @@ pub unk_rows : (categories : List NamedCategory) (bytes : List ℕ) (reading : R
 unk_rows categories bytes reading h =
     rows_read (unk_outcome categories) (IsUnkRow categories) (λ number parts. judged_by categories number (row_from number parts) (row_is number parts)) 2 0 bytes reading h
 
--- ---- rows and the rows of each category: the same lines lie outside
+-- ---- the rows and the rows of each category have the same lines outside
 
-outside_in : (sizes : MatrixSizes) (rows : List Row) (n : ℕ) → StandsIn (lines_outside sizes rows) n → (row : Row) × StandsIn rows row × (is_outside sizes row ≡ true) × (row.line ≡ n)
+outside_in : (sizes : MatrixSizes) (rows : List Row) (n : ℕ) → IsMember (lines_outside sizes rows) n → (row : Row) × IsMember rows row × (is_outside sizes row ≡ true) × (row.line ≡ n)
 outside_in sizes rows n h =
     let m = in_map (λ (row : Row). row.line) (filter (is_outside sizes) rows) n h in
     let f = in_filter (is_outside sizes) rows m.0 m.1 in
     (m.0, f.0, f.1, m.2)
 
-in_outside : (sizes : MatrixSizes) (rows : List Row) (row : Row) (n : ℕ) → StandsIn rows row → is_outside sizes row ≡ true → row.line ≡ n → StandsIn (lines_outside sizes rows) n
-in_outside sizes rows row n h out is = subst (StandsIn (lines_outside sizes rows)) is (map_in (λ (r : Row). r.line) (filter (is_outside sizes) rows) row (filter_in (is_outside sizes) rows row h out))
+in_outside : (sizes : MatrixSizes) (rows : List Row) (row : Row) (n : ℕ) → IsMember rows row → is_outside sizes row ≡ true → row.line ≡ n → IsMember (lines_outside sizes rows) n
+in_outside sizes rows row n h out is = subst (IsMember (lines_outside sizes rows)) is (map_in (λ (r : Row). r.line) (filter (is_outside sizes) rows) row (filter_in (is_outside sizes) rows row h out))
 
 abbrev rows_numbered : List NamedCategory → List Row → (ℕ × NamedCategory) → List Row
 rows_numbered categories rows category = rows_named categories rows category.0
 
-numbered_in : (n i : ℕ) (cs : List NamedCategory) (d : NamedCategory) → i < length cs → StandsIn (enumerate_from n cs) (n + i, get_or cs i d)
+numbered_in : (n i : ℕ) (cs : List NamedCategory) (d : NamedCategory) → i < length cs → IsMember (enumerate_from n cs) (n + i, get_or cs i d)
 numbered_in n i [] d less = absurd (omega arith)
 numbered_in n zero (c ∷ cs) d less = inl (ap (λ (k : ℕ). (k, c)) (let e : n ≡ n + 0 = omega arith in e))
 numbered_in n (suc i) (c ∷ cs) d less =
-    inr (subst (λ (k : ℕ). StandsIn (enumerate_from (n + 1) cs) (k, get_or cs i d)) (let e : n + 1 + i ≡ n + suc i = omega arith in e) (numbered_in (n + 1) i cs d (omega arith)))
+    inr (subst (λ (k : ℕ). IsMember (enumerate_from (n + 1) cs) (k, get_or cs i d)) (let e : n + 1 + i ≡ n + suc i = omega arith in e) (numbered_in (n + 1) i cs d (omega arith)))
 
-from_categories : (sizes : MatrixSizes) (categories : List NamedCategory) (rows : List Row) (n : ℕ) → StandsIn (all_lines_outside sizes (rows_by_category categories rows)) n → StandsIn (lines_outside sizes rows) n
+from_categories : (sizes : MatrixSizes) (categories : List NamedCategory) (rows : List Row) (n : ℕ) → IsMember (all_lines_outside sizes (rows_by_category categories rows)) n → IsMember (lines_outside sizes rows) n
 from_categories sizes categories rows n h =
     let list = in_flat_map (lines_outside sizes) (rows_by_category categories rows) n h in
     let its = in_map (rows_numbered categories rows) (enumerate_from 0 categories) list.0 list.1 in
     let out = outside_in sizes list.0 n list.2 in
-    let there = in_filter (λ (row : Row). category_number categories row.surface == its.0.0) rows out.0 (subst (λ (xs : List Row). StandsIn xs out.0) (sym its.2) out.1) in
+    let there = in_filter (λ (row : Row). category_number categories row.surface == its.0.0) rows out.0 (subst (λ (xs : List Row). IsMember xs out.0) (sym its.2) out.1) in
     in_outside sizes rows out.0 n there.0 out.2 out.3
 
 no_name : NamedCategory
 no_name = record { name = []; category = record { invoke = false; group = false; length = 0 } }
 
-to_categories : (sizes : MatrixSizes) (categories : List NamedCategory) (rows : List Row) (n : ℕ) → AllByRecursion (IsUnkRow categories) rows → StandsIn (lines_outside sizes rows) n
-    → StandsIn (all_lines_outside sizes (rows_by_category categories rows)) n
+to_categories : (sizes : MatrixSizes) (categories : List NamedCategory) (rows : List Row) (n : ℕ) → AllByRecursion (IsUnkRow categories) rows → IsMember (lines_outside sizes rows) n
+    → IsMember (all_lines_outside sizes (rows_by_category categories rows)) n
 to_categories sizes categories rows n named h =
     let out = outside_in sizes rows n h in
     let i = category_number categories out.0.surface in
@@ -84,7 +85,7 @@ to_categories sizes categories rows n named h =
 
 -- ---- the first row outside is the one with the least line
 
-later_lines : (sizes : MatrixSizes) (from n : ℕ) (rows : List Row) → LinesRise from rows → StandsIn (lines_outside sizes rows) n → from ≤ n
+later_lines : (sizes : MatrixSizes) (from n : ℕ) (rows : List Row) → LinesRise from rows → IsMember (lines_outside sizes rows) n → from ≤ n
 later_lines sizes from n [] rise h = absurd h
 later_lines sizes from n (row ∷ rows) rise h =
     let out = outside_in sizes (row ∷ rows) n h in
@@ -125,7 +126,7 @@ abbrev rows_told : Result (List (List Row)) SourceFault → List (List Row)
 rows_told (Ok unknown) = unknown
 rows_told (Err fault) = []
 
--- what an accepted `unk.def` is read from
+-- the reading of an accepted `unk.def`
 pub record IsReadFrom (categories : List NamedCategory) (bytes : List ℕ) (unknown : List (List Row)) : Type 0 where
   pub reading : Reading
   pub reads : ReadsAs (unk_outcome categories) 2 0 bytes (Ok reading)
@@ -147,17 +148,17 @@ read_from_by categories bytes unknown (Ok lines) reads h =
 pub read_from : (categories : List NamedCategory) (bytes : List ℕ) (unknown : List (List Row)) → IsUnkDef categories bytes (Ok unknown) → IsReadFrom categories bytes unknown
 read_from categories bytes unknown h = read_from_by categories bytes unknown h.0 h.1 h.2
 
-told_by : (sizes : MatrixSizes) (categories : List NamedCategory) (bytes : List ℕ) (fault : SourceFault) (reading : Result Reading SourceFault) → ReadsAs (unk_outcome categories) 2 0 bytes reading → Err fault ≡ unknown_from categories reading
+handle_result : (sizes : MatrixSizes) (categories : List NamedCategory) (bytes : List ℕ) (fault : SourceFault) (reading : Result Reading SourceFault) → ReadsAs (unk_outcome categories) 2 0 bytes reading → Err fault ≡ unknown_from categories reading
     → IsUnkWithin sizes categories bytes (Err fault)
-told_by sizes categories bytes fault (Err found) reads h = (Err found, reads, h)
-told_by sizes categories bytes fault (Ok lines) reads h = (Ok lines, reads, ap (unless_outside sizes lines.rows) h)
+handle_result sizes categories bytes fault (Err found) reads h = (Err found, reads, h)
+handle_result sizes categories bytes fault (Ok lines) reads h = (Ok lines, reads, ap (check_outside sizes lines.rows) h)
 
--- a fault of the reader is the first one
-pub reader_told : (sizes : MatrixSizes) (categories : List NamedCategory) (bytes : List ℕ) (fault : SourceFault) → IsRefusal fault (IsUnkDef categories bytes (Err fault)) → IsRefusal fault (IsUnkWithin sizes categories bytes (Err fault))
+-- an error of the reader is the first one
+pub reader_told : (sizes : MatrixSizes) (categories : List NamedCategory) (bytes : List ℕ) (fault : SourceFault) → IsMemoryOr fault (IsUnkDef categories bytes (Err fault)) → IsMemoryOr fault (IsUnkWithin sizes categories bytes (Err fault))
 reader_told sizes categories bytes fault (inl memory) = inl memory
-reader_told sizes categories bytes fault (inr cause) = inr (told_by sizes categories bytes fault cause.0 cause.1 cause.2)
+reader_told sizes categories bytes fault (inr cause) = inr (handle_result sizes categories bytes fault cause.0 cause.1 cause.2)
 
--- the least line outside is the first fault where the reader finds none
+-- the least line outside is the first error, if the reader finds none
 pub line_told : (sizes : MatrixSizes) (categories : List NamedCategory) (bytes : List ℕ) (unknown : List (List Row)) (line : ℕ) → IsUnkDef categories bytes (Ok unknown) → IsLeast (all_lines_outside sizes unknown) line
     → IsUnkWithin sizes categories bytes (Err (record { file = 2; line = line; kind = IdOutside }))
 line_told sizes categories bytes unknown line h least =
@@ -170,16 +171,16 @@ line_told sizes categories bytes unknown line h least =
       is_one = from_categories sizes categories rows line here.is_one;
       none_below = each_holds (λ m. line ≤ m) (lines_outside sizes rows) (λ n i. holds_in (λ m. line ≤ m) all n here.none_below (to_categories sizes categories rows n u.each i));
     }) in
-    (Ok r.reading, r.reads, sym (ap (unless_outside sizes rows) (sym r.none_missing) ∙ ap (λ (o : Option SourceFault). rows_or o unknown) first))
+    (Ok r.reading, r.reads, sym (ap (check_outside sizes rows) (sym r.none_missing) ∙ ap (λ (o : Option SourceFault). rows_or o unknown) first))
 
--- with no line outside there is no fault
+-- without a line outside there is no error
 pub none_told : (sizes : MatrixSizes) (categories : List NamedCategory) (bytes : List ℕ) (unknown : List (List Row)) → IsUnkDef categories bytes (Ok unknown) → all_lines_outside sizes unknown ≡ [] → IsUnkWithin sizes categories bytes (Ok unknown)
 none_told sizes categories bytes unknown h none =
     let r = read_from categories bytes unknown h in
     let rows = r.reading.rows in
     let u = unk_rows categories bytes r.reading r.reads in
     let here = ap (all_lines_outside sizes) (sym r.rows_are) ∙ none in
-    let empty = none_stands (lines_outside sizes rows) (λ n i. subst (λ (ns : List ℕ). StandsIn ns n) here (to_categories sizes categories rows n u.each i)) in
-    (Ok r.reading, r.reads, sym (ap (unless_outside sizes rows) (sym r.none_missing) ∙ ap (λ (o : Option SourceFault). rows_or o unknown) (none_is sizes rows empty)))
+    let empty = none_stands (lines_outside sizes rows) (λ n i. subst (λ (ns : List ℕ). IsMember ns n) here (to_categories sizes categories rows n u.each i)) in
+    (Ok r.reading, r.reads, sym (ap (check_outside sizes rows) (sym r.none_missing) ∙ ap (λ (o : Option SourceFault). rows_or o unknown) (none_is sizes rows empty)))
 
 -- ---- an accepted file has no line outside

@@ -1,4 +1,4 @@
--- `unk.def`, line by line: what a line is judged to be, and where its row is added.
+-- `unk.def`, line by line: the outcome of a line, and the list that its row is added to.
 use Rattle.std.proofs.Common.{◌≡◌, ℕ, zero, suc, ◌+◌, ◌<◌, ◌≤◌, Bool, true, false, cond, ltb, ◌==◌, List, [], ◌∷◌, ◌++◌, length, get_or, set, map, refl, sym, ◌∙◌, ap, subst, arith, Option, Some, None, ◌⊎◌, inl, inr, length-append}
 use Rattle.std.specs.Prelude.{filter, replicate, Ok, Err}
 use Rattle.std.specs.List.{enumerate_from}
@@ -12,19 +12,19 @@ use Rattle.mj_model.specs.declared.limits.TheConstants.{ENTRIES_MAX}
 use Rattle.mj_model.specs.declared.source_fault.SourceFault.{SourceFault}
 use Rattle.mj_model.specs.declared.source_fault.SourceKind.{SourceKind}
 use Rattle.mj_model.specs.declared.source_fault.SourceKind.TheVariants.{NoSuchCategory, TooManyEntries, MissingCategory, Memory}
-use Rattle.mj_model.specs.FirstFault.{IsRefusal}
+use Rattle.mj_model.specs.FirstFault.{IsMemoryOr}
 use Rattle.mj_model.specs.Lines.{numbered_lines}
 use Rattle.mj_model.specs.Lexicon.{Row, row_of, rows_of, Reading, ReadsAs, Outcome, Blank, Skipped, Refused, Accepted, IsOutcome, is_blank, not_text, too_few, has_parts, row_from}
 use Rattle.mj_model.specs.CharDef.{NamedCategory, is_defined, category_number}
-use Rattle.mj_model.specs.UnkDef.{accept_defined, unk_outcome, rows_by_category, first_without_rows, unless_missing, IsUnkDef}
-use Rattle.lex_source.specs.Steps.{IsTaken, IsRefusedLine, IsReadUpTo, accept_any, row_outcome}
+use Rattle.mj_model.specs.UnkDef.{accept_defined, unk_outcome, rows_by_category, first_without_rows, check_missing, IsUnkDef}
+use Rattle.lex_source.specs.Steps.{IsReadLine, IsRejectedLine, IsReadUpTo, accept_any, row_outcome}
 use Rattle.lex_source.proofs.LexiconLemmas.{read_none, line_taken, line_refused, all_read}
 use Rattle.char_def.specs.Definitions.{HasNumber}
 use Rattle.char_def.specs.UnkRows.{lists_are, HasAdded, HasReadUnk}
 
--- ---- what a line is judged to be
+-- ---- the outcome of a line
 
--- the outcome of a line whose row would be accepted whatever its surface
+-- the outcome of a line whose row is accepted with any surface
 rejudged : List NamedCategory → Outcome → Outcome
 rejudged categories Blank = Blank
 rejudged categories Skipped = Skipped
@@ -44,13 +44,13 @@ rejudge categories number line _ (too_few some utf8 fields are few) = too_few so
 rejudge categories number line _ (has_parts some utf8 parts are) =
     subst (λ (o : Outcome). IsOutcome (unk_outcome categories) number line o) (rejudged_row categories (row_from number parts)) (has_parts some utf8 parts are)
 
-pub blank_taken : (categories : List NamedCategory) (number : ℕ) (line : List ℕ) (held : ℕ) → IsOutcome row_outcome number line Blank → IsTaken (unk_outcome categories) number line held false []
+pub blank_taken : (categories : List NamedCategory) (number : ℕ) (line : List ℕ) (held : ℕ) → IsOutcome row_outcome number line Blank → IsReadLine (unk_outcome categories) number line held false []
 unfolding rejudged
 blank_taken categories number line held is = record { outcome = Blank; is = rejudge categories number line Blank is; fits = λ file. refl; appended = refl; counted = refl }
 
-pub refused_before : (categories : List NamedCategory) (number : ℕ) (line : List ℕ) (held : ℕ) (kind : SourceKind) → IsOutcome row_outcome number line (Refused kind) → IsRefusedLine (unk_outcome categories) number line held kind
+pub refused_before : (categories : List NamedCategory) (number : ℕ) (line : List ℕ) (held : ℕ) (kind : SourceKind) → IsOutcome row_outcome number line (Refused kind) → IsRejectedLine (unk_outcome categories) number line held kind
 unfolding rejudged
-refused_before categories number line held kind is = record { outcome = Refused kind; is = rejudge categories number line (Refused kind) is; refused = λ file. refl }
+refused_before categories number line held kind is = record { outcome = Refused kind; is = rejudge categories number line (Refused kind) is; rejected = λ file. refl }
 
 named_row : (categories : List NamedCategory) (number : ℕ) (line : List ℕ) (row : Row) → IsOutcome row_outcome number line (Accepted row) → is_defined categories row.surface ≡ true → IsOutcome (unk_outcome categories) number line (Accepted row)
 unfolding rejudged
@@ -58,19 +58,19 @@ named_row categories number line row is defined =
     subst (λ (o : Outcome). IsOutcome (unk_outcome categories) number line o) (cond-true (is_defined categories row.surface) (Accepted row) (Refused NoSuchCategory) defined) (rejudge categories number line (Accepted row) is)
 
 pub unnamed_refused : (categories : List NamedCategory) (number : ℕ) (line : List ℕ) (held : ℕ) (row : Row) → IsOutcome row_outcome number line (Accepted row) → is_defined categories row.surface ≡ false
-    → IsRefusedLine (unk_outcome categories) number line held NoSuchCategory
+    → IsRejectedLine (unk_outcome categories) number line held NoSuchCategory
 unfolding rejudged
 unnamed_refused categories number line held row is undefined = record {
   outcome = Refused NoSuchCategory;
   is = subst (λ (o : Outcome). IsOutcome (unk_outcome categories) number line o) (cond-false (is_defined categories row.surface) (Accepted row) (Refused NoSuchCategory) undefined) (rejudge categories number line (Accepted row) is);
-  refused = λ file. refl;
+  rejected = λ file. refl;
 }
 
 too_many : ℕ → ℕ → Option SourceFault
 too_many file number = Some (record { file = file; line = number; kind = TooManyEntries })
 
 pub row_taken : (categories : List NamedCategory) (number : ℕ) (line : List ℕ) (held : ℕ) (row : Row) → IsOutcome row_outcome number line (Accepted row) → is_defined categories row.surface ≡ true → ltb held ENTRIES_MAX ≡ true
-    → IsTaken (unk_outcome categories) number line held false (row ∷ [])
+    → IsReadLine (unk_outcome categories) number line held false (row ∷ [])
 unfolding too_many
 row_taken categories number line held row is defined fits = record {
   outcome = Accepted row;
@@ -81,17 +81,17 @@ row_taken categories number line held row is defined fits = record {
 }
 
 pub full_refused : (categories : List NamedCategory) (number : ℕ) (line : List ℕ) (held : ℕ) (row : Row) → IsOutcome row_outcome number line (Accepted row) → is_defined categories row.surface ≡ true → ltb held ENTRIES_MAX ≡ false
-    → IsRefusedLine (unk_outcome categories) number line held TooManyEntries
+    → IsRejectedLine (unk_outcome categories) number line held TooManyEntries
 unfolding too_many
 full_refused categories number line held row is defined full = record {
   outcome = Accepted row;
   is = named_row categories number line row is defined;
-  refused = λ file. cond-false (ltb held ENTRIES_MAX) None (too_many file number) full;
+  rejected = λ file. cond-false (ltb held ENTRIES_MAX) None (too_many file number) full;
 }
 
--- ---- where a row is added
+-- ---- the list that a row is added to
 
--- the rows of categories that are numbered from a number on, where this numbers a row
+-- the rows of categories numbered from n on, if `number` gives the category of a row
 unfoldable pub rows_from : (Row → ℕ) → ℕ → List NamedCategory → List Row → List (List Row)
 rows_from number n categories rows = map (λ (category : ℕ × NamedCategory). filter (λ row. number row == category.0) rows) (enumerate_from n categories)
 
@@ -164,7 +164,7 @@ nothing_held categories number line held lists is = record {
 }
 
 pub line_bad : (categories : List NamedCategory) (number : ℕ) (line : List ℕ) (held : ℕ) (kind : SourceKind) → (kind ≡ Memory) ⊎ IsOutcome row_outcome number line (Refused kind)
-    → (kind ≡ Memory) ⊎ IsRefusedLine (unk_outcome categories) number line held kind
+    → (kind ≡ Memory) ⊎ IsRejectedLine (unk_outcome categories) number line held kind
 line_bad categories number line held kind (inl memory) = inl memory
 line_bad categories number line held kind (inr cause) = inr (refused_before categories number line held kind cause)
 
@@ -193,7 +193,7 @@ unk_more categories all left lines number line held now old new r is a = record 
 }
 
 pub unk_refused : (categories : List NamedCategory) (bytes : List ℕ) (left lines : List (ℕ × List ℕ)) (number : ℕ) (line : List ℕ) (held : ℕ) (kind : SourceKind) (lists : List (Vec Record Global))
-    → HasReadUnk categories (numbered_lines bytes) lines held lists → lines ≡ (number, line) ∷ left → (kind ≡ Memory) ⊎ IsRefusedLine (unk_outcome categories) number line held kind
+    → HasReadUnk categories (numbered_lines bytes) lines held lists → lines ≡ (number, line) ∷ left → (kind ≡ Memory) ⊎ IsRejectedLine (unk_outcome categories) number line held kind
     → (kind ≡ Memory) ⊎ ReadsAs (unk_outcome categories) 2 0 bytes (Err (record { file = 2; line = number; kind = kind }))
 unk_refused categories bytes left lines number line held kind lists r is (inl memory) = inl memory
 unk_refused categories bytes left lines number line held kind lists r is (inr cause) =
@@ -223,7 +223,7 @@ no_list (x ∷ xs) n is before = first_is (x ∷ xs) (length (x ∷ xs)) x (omeg
 
 -- ---- the whole file
 
-pub refused_whole : (categories : List NamedCategory) (bytes : List ℕ) (fault : SourceFault) → IsRefusal fault (ReadsAs (unk_outcome categories) 2 0 bytes (Err fault)) → IsRefusal fault (IsUnkDef categories bytes (Err fault))
+pub refused_whole : (categories : List NamedCategory) (bytes : List ℕ) (fault : SourceFault) → IsMemoryOr fault (ReadsAs (unk_outcome categories) 2 0 bytes (Err fault)) → IsMemoryOr fault (IsUnkDef categories bytes (Err fault))
 refused_whole categories bytes fault (inl memory) = inl memory
 refused_whole categories bytes fault (inr cause) = inr (Err fault, cause, refl)
 
@@ -235,9 +235,9 @@ missing_refused categories bytes lists missing r is in' =
     let u : List (List Row) = lists_are lists in
     let long : length u ≡ length lists = length-map lists (λ (list : Vec Record Global). rows_of list.items) in
     let low : first_without_rows u < length u = omega (arith, is) in
-    let told : unless_missing u ≡ Err (record { file = 2; line = 0; kind = MissingCategory (first_without_rows u) }) =
+    let reported : check_missing u ≡ Err (record { file = 2; line = 0; kind = MissingCategory (first_without_rows u) }) =
     cond-true (ltb (first_without_rows u) (length u)) (Err (record { file = 2; line = 0; kind = MissingCategory (first_without_rows u) })) (Ok u) (lt-ltb (first_without_rows u) (length u) low) in
-    (Ok r.0, r.1, ap (λ (i : ℕ). Err (record { file = 2; line = 0; kind = MissingCategory i })) is ∙ sym told ∙ ap unless_missing r.2)
+    (Ok r.0, r.1, ap (λ (i : ℕ). Err (record { file = 2; line = 0; kind = MissingCategory i })) is ∙ sym reported ∙ ap check_missing r.2)
 
 pub none_missing : (categories : List NamedCategory) (bytes : List ℕ) (lists : List (Vec Record Global)) (missing : ℕ)
     → (reading : Reading) × ReadsAs (unk_outcome categories) 2 0 bytes (Ok reading) × (lists_are lists ≡ rows_by_category categories reading.rows) → missing ≡ first_without_rows (lists_are lists) → length lists ≤ missing
@@ -246,8 +246,8 @@ none_missing categories bytes lists missing r is out =
     let u : List (List Row) = lists_are lists in
     let long : length u ≡ length lists = length-map lists (λ (list : Vec Record Global). rows_of list.items) in
     let high : length u ≤ first_without_rows u = omega (arith, is) in
-    let told : unless_missing u ≡ Ok u = cond-false (ltb (first_without_rows u) (length u)) (Err (record { file = 2; line = 0; kind = MissingCategory (first_without_rows u) })) (Ok u) (le-ltb (first_without_rows u) (length u) high) in
-    (Ok r.0, r.1, sym told ∙ ap unless_missing r.2)
+    let reported : check_missing u ≡ Ok u = cond-false (ltb (first_without_rows u) (length u)) (Err (record { file = 2; line = 0; kind = MissingCategory (first_without_rows u) })) (Ok u) (le-ltb (first_without_rows u) (length u) high) in
+    (Ok r.0, r.1, sym reported ∙ ap check_missing r.2)
 
 -- ---- a list with one more record
 

@@ -1,4 +1,4 @@
--- What a line of `char.def` is read as, and the mappings of all lines.
+-- The contents of a line of `char.def` as it was read, and the mappings of all lines.
 use Rattle.std.specs.Prelude.{ℕ, List, [], ◌∷◌, map, flat_map, Option, None}
 use Rattle.mj_model.specs.declared.source_fault.SourceFault.{SourceFault}
 use Rattle.mj_model.specs.declared.source_fault.TheConstants.{CHAR_FILE}
@@ -9,28 +9,28 @@ use Rattle.char_def.specs.declared.line.CharLine.{CharLine as LineRead}
 use Rattle.char_def.specs.declared.line.CharLine.TheVariants as read
 use Rattle.char_def.specs.declared.line.CategoryLine.{CategoryLine}
 use Rattle.char_def.specs.declared.line.MappingLine.{MappingLine}
-use Rattle.char_def.specs.Mapped.{Said, said, range_is}
+use Rattle.char_def.specs.Mapped.{RangeCategories, range_categories, range_is}
 
--- a category line, without where it lies in memory
+-- the contents of a category line
 abbrev pub category_is : CategoryLine → NamedCategory
 category_is line = record { name = line.name.now; category = line.category }
 
--- a mapping line, without where it lies in memory
+-- the contents of a mapping line
 abbrev pub mapping_is : MappingLine → Mapping
 mapping_is line = record { range = range_is line.range; first = line.first.now; others = line.others }
 
--- a line, without where it lies in memory
+-- the contents of a line
 abbrev pub line_is : LineRead → CharLine
 line_is read.Nothing = Nothing
 line_is (read.Category category) = Defines (category_is category)
 line_is (read.Mapping mapping) = Maps (mapping_is mapping)
 
--- ---- mappings with the numbers of their lines
+-- ---- mappings with their line numbers
 
 abbrev pub mappings_are : List NumberedMapping → List (ℕ × Mapping)
 mappings_are = map (λ (m : NumberedMapping). (m.number, mapping_is m.mapping))
 
--- the mapping of a numbered line, if it is one
+-- the mapping of a numbered line, if it has one
 abbrev pub mapped_in : (ℕ × List ℕ) → List (ℕ × Mapping)
 mapped_in line = map (λ (m : Mapping). (line.0, m)) (mapped_by (char_line line.1))
 
@@ -38,11 +38,11 @@ mapped_in line = map (λ (m : Mapping). (line.0, m)) (mapped_by (char_line line.
 abbrev pub numbered_mappings : List (ℕ × List ℕ) → List (ℕ × Mapping)
 numbered_mappings lines = flat_map mapped_in lines
 
--- the fault of the first mapping that names a category that is not among these
+-- the error of the first mapping with an undefined category
 abbrev pub first_undefined : List NamedCategory → List (ℕ × Mapping) → Option SourceFault
 first_undefined categories [] = None
 first_undefined categories (mapping ∷ mappings) = fault_or CHAR_FILE mapping.0 (mapping_fault categories (Maps mapping.1)) (first_undefined categories mappings)
 
--- what the mappings say, where these are the categories
-abbrev pub all_said : List NamedCategory → List (ℕ × Mapping) → List Said
-all_said categories mappings = map (λ (m : ℕ × Mapping). said categories m.1) mappings
+-- the ranges of the mappings with their categories
+abbrev pub all_range_categories : List NamedCategory → List (ℕ × Mapping) → List RangeCategories
+all_range_categories categories mappings = map (λ (m : ℕ × Mapping). range_categories categories m.1) mappings

@@ -9,4 +9,4 @@ pub mod InfoRanges
 pub mod UnkRows
 pub mod UnknownLists
 pub mod Outside
-pub mod Answers
+pub mod Results

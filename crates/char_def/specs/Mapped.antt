@@ -4,32 +4,32 @@ use Rattle.mj_model.specs.declared.category.CharInfo.{CharInfo}
 use Rattle.mj_model.specs.CharDef.{NamedCategory, Range, Mapping, info_of_names}
 use Rattle.char_def.specs.declared.code_range.CodeRange.{CodeRange}
 use Rattle.char_def.specs.declared.mapped.MappedRange.{MappedRange}
-use Rattle.char_def.specs.declared.overlay.Step.{Step}
+use Rattle.char_def.specs.declared.overlay.CategoryStep.{CategoryStep}
 use Rattle.char_def.specs.Steps.{info_by, AreRising}
 
--- a range of code points, and what a mapping says of them
-pub record Said : Type 0 where
+-- a range of code points, and its categories in a mapping
+pub record RangeCategories : Type 0 where
   pub range : Range
   pub info : CharInfo
 
 abbrev pub range_is : CodeRange → Range
 range_is r = record { low = r.low; high = r.high }
 
-abbrev pub said_by : MappedRange → Said
-said_by m = record { range = range_is m.range; info = m.info }
+abbrev pub range_categories_by : MappedRange → RangeCategories
+range_categories_by m = record { range = range_is m.range; info = m.info }
 
--- what a mapping says, where these are the categories
-abbrev pub said : List NamedCategory → Mapping → Said
-said categories m = record { range = m.range; info = info_of_names categories m.first m.others }
+-- the range of a mapping with its categories
+abbrev pub range_categories : List NamedCategory → Mapping → RangeCategories
+range_categories categories m = record { range = m.range; info = info_of_names categories m.first m.others }
 
-abbrev pub is_said_of : ℕ → Said → Bool
-is_said_of code s = nat_le s.range.low code && nat_le code s.range.high
+abbrev pub applies_to : ℕ → RangeCategories → Bool
+applies_to code s = nat_le s.range.low code && nat_le code s.range.high
 
--- the last that is said of a code point
-abbrev pub last_said : List Said → ℕ → Option CharInfo
-last_said list code = option_map (λ (s : Said). s.info) (find (is_said_of code) (reverse list))
+-- the categories of a code point in the last range that covers it
+abbrev pub last_categories : List RangeCategories → ℕ → Option CharInfo
+last_categories list code = option_map (λ (s : RangeCategories). s.info) (find (applies_to code) (reverse list))
 
--- the steps say of each code point what was said last
-pub record IsCoverage (list : List Said) (steps : List Step) : Type 0 where
+-- the steps give each code point the categories of the last range that covers it
+pub record IsCoverage (list : List RangeCategories) (steps : List CategoryStep) : Type 0 where
   pub rising : AreRising 0 steps
-  pub says : (code : ℕ) → info_by steps code ≡ last_said list code
+  pub says : (code : ℕ) → info_by steps code ≡ last_categories list code

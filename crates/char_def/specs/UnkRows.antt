@@ -1,4 +1,4 @@
--- Unknown entries as they are held, and `unk.def` read line by line.
+-- Lists of unknown entries, and the reading of `unk.def` line by line.
 use Rattle.std.specs.Prelude.{◌≡◌, ℕ, ◌+◌, false, List, ◌++◌, length, map}
 use Rattle.std.specs.declared.alloc.Global.{Global}
 use Rattle.std.specs.declared.vec.Vec.{Vec}
@@ -6,20 +6,20 @@ use Rattle.mj_model.specs.declared.entry.Record.{Record}
 use Rattle.mj_model.specs.Lexicon.{Row, rows_of}
 use Rattle.mj_model.specs.CharDef.{NamedCategory}
 use Rattle.mj_model.specs.UnkDef.{unk_outcome, rows_by_category}
-use Rattle.lex_source.specs.Steps.{IsTaken, IsReadUpTo}
+use Rattle.lex_source.specs.Steps.{IsReadLine, IsReadUpTo}
 
--- the rows of each category, without where they lie in memory
+-- the rows in the lists of each category
 abbrev pub lists_are : List (Vec Record Global) → List (List Row)
 lists_are lists = map (λ list. rows_of list.items) lists
 
--- the rows that a line adds, where this many are held
+-- the rows that a line adds after `held` rows
 pub record HasAdded (categories : List NamedCategory) (number : ℕ) (text : List ℕ) (held now : ℕ) (old new : List (Vec Record Global)) : Type 0 where
   pub more : List Row
-  pub taken : IsTaken (unk_outcome categories) number text held false more
+  pub taken : IsReadLine (unk_outcome categories) number text held false more
   pub counted : now ≡ held + length more
   pub added : (rows : List Row) → lists_are old ≡ rows_by_category categories rows → lists_are new ≡ rows_by_category categories (rows ++ more)
 
--- the lines before `left` are taken, and their rows are held
+-- the lines before `left` are not rejected, and their rows are in the lists
 pub record HasReadUnk (categories : List NamedCategory) (all left : List (ℕ × List ℕ)) (held : ℕ) (lists : List (Vec Record Global)) : Type 0 where
   pub held_rows : List Row
   pub read : IsReadUpTo (unk_outcome categories) 0 all left held_rows 0

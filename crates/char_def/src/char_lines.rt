@@ -1,9 +1,9 @@
 //! The lines of `char.def`, each read once.
 ghost use Rattle.std.specs.Prelude.{◌≡◌, ◌≤◌, ◌++◌, [], length, None, Some, IfOk, IfErr, OnOk};
-ghost use Rattle.char_def.specs.Answers.{IsDefinitionRefusal};
+ghost use Rattle.char_def.specs.Results.{IsDefinitionError};
 ghost use Rattle.mj_model.specs.declared.limits.TheConstants.{CATEGORIES_MAX as CategoriesMax};
 ghost use Rattle.mj_model.specs.CharDef.{char_line, defined_by, line_fault, first_bad_line, source_from};
-ghost use Rattle.mj_model.specs.FirstFault.{IsRefusal};
+ghost use Rattle.mj_model.specs.FirstFault.{IsMemoryOr};
 ghost use Rattle.mj_model.specs.Lines.{numbered_lines};
 ghost use Rattle.char_def.specs.CharLines.{mapped_in, mappings_are, numbered_mappings};
 ghost use Rattle.char_def.specs.Definitions.{definitions_are};
@@ -14,21 +14,21 @@ use lex_source::lines;
 use mj_model::{CHAR_FILE, SourceFault, SourceKind};
 use std::alloc::Global;
 
-/// A mapping line and its number.
+/// A mapping line with its number.
 #[derive(Drop)]
 pub(crate) struct NumberedMapping<'a> {
     pub(crate) number: u64,
     pub(crate) mapping: MappingLine<'a>,
 }
 
-/// The categories and the mapping lines. A mapping may name a category that is defined after it.
+/// The categories and the mapping lines. A mapping may name a category that a later line defines.
 #[derive(Drop)]
 pub(crate) struct CharLines<'a> {
     pub(crate) definitions: Vec<Definition>,
     pub(crate) mappings: Vec<NumberedMapping<'a>>,
 }
 
-/// What the lines say, up to the first that is bad whatever categories are defined after it.
+/// Reads the lines up to the first one that is invalid whatever categories are defined after it.
 pub(crate) fn read_lines(alloc: Global, bytes: &[u8]) -> Result<CharLines<'_>, SourceFault>
     ensures accepted { IfOk result (λ read. first_bad_line [] (numbered_lines bytes.now) ≡ None) }
     ensures categories { IfOk result (λ read. definitions_are read.definitions.items
@@ -36,7 +36,7 @@ pub(crate) fn read_lines(alloc: Global, bytes: &[u8]) -> Result<CharLines<'_>, S
     ensures few { IfOk result (λ read. length read.definitions.items ≤ CategoriesMax) }
     ensures mappings { IfOk result (λ read. mappings_are read.mappings.items
         ≡ numbered_mappings (numbered_lines bytes.now)) }
-    ensures refused { IfErr result (λ fault. IsRefusal fault
+    ensures rejected { IfErr result (λ fault. IsMemoryOr fault
         (first_bad_line [] (numbered_lines bytes.now) ≡ Some fault)) }
 {
     let mut read = CharLines {
@@ -51,7 +51,7 @@ pub(crate) fn read_lines(alloc: Global, bytes: &[u8]) -> Result<CharLines<'_>, S
     Ok(read)
 }
 
-/// Adds what a line says.
+/// Adds the category or the mapping of a line.
 fn add_line<'a>(
     alloc: Global,
     number: u64,
@@ -66,7 +66,7 @@ fn add_line<'a>(
     ensures few { OnOk result (length read.new.definitions.items ≤ CategoriesMax) }
     ensures mapped { OnOk result (mappings_are read.new.mappings.items
         ≡ mappings_are read.old.mappings.items ++ mapped_in (number, line.now)) }
-    ensures refused { IfErr result (IsDefinitionRefusal
+    ensures rejected { IfErr result (IsDefinitionError
         (definitions_are read.old.definitions.items) (char_line line.now)) }
 {
     match read_line(line)? {

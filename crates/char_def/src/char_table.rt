@@ -1,8 +1,8 @@
 //! The categories of all code points.
 ghost use Rattle.std.specs.Prelude.{◌≡◌, ◌≤◌, ◌<◌, length, Ok, Err, Some, None, IfOk, IfErr};
-ghost use Rattle.char_def.specs.Answers.{AnswersInfo, IsNumberOf, IsTableIn};
+ghost use Rattle.char_def.specs.Results.{IsInfoResult, IsNumberOf, IsTableIn};
 ghost use Rattle.mj_model.specs.declared.limits.TheConstants.{CATEGORIES_MAX as CategoriesMax};
-ghost use Rattle.mj_model.specs.FirstFault.{IsRefusal};
+ghost use Rattle.mj_model.specs.FirstFault.{IsMemoryOr};
 ghost use Rattle.mj_model.specs.CharDef.{char_source, code_point_max};
 ghost use Rattle.char_def.specs.Categories.{IsCategoryTable, table_info, category_at};
 ghost use Rattle.char_def.specs.Definitions.{definitions_are};
@@ -11,21 +11,21 @@ ghost use Rattle.char_def.specs.InfoRanges.{AreRangesOf};
 use crate::char_lines::{CharLines, read_lines};
 use crate::coverage::coverage;
 use crate::definitions::{Definition, number_of};
-use crate::info_range::{InfoRange, push_range};
+use crate::info_range::{CategoryRange, push_range};
 use crate::mappings::look_up;
-use crate::overlay::{Step, find_step};
+use crate::overlay::{CategoryStep, find_step};
 use mj_model::{CHAR_FILE, Category, CharInfo, SourceFault, SourceKind};
 use std::alloc::{AllocError, Global};
 use std::marker::Model;
 
-/// The categories, and those of each code point. (MeCab, `char.def`)
+/// The categories, and the categories of each code point. (MeCab, `char.def`)
 #[derive(Drop)]
 pub struct CharTable {
     definitions: Vec<Definition>,
-    /// The categories of a code point that is not mapped.
+    /// The categories of code points without a mapping.
     default: CharInfo,
-    /// What the mappings say of code points.
-    steps: Vec<Step>,
+    /// The categories of mapped code points.
+    steps: Vec<CategoryStep>,
 }
 
 impl Model for CharTable {
@@ -52,7 +52,8 @@ impl Model for CharTable {
 }
 
 impl CharTable {
-    /// The categories of a code point, surrogates included, in the time of a binary search.
+    /// Returns the categories of the code point `code`, which may be a surrogate, by a binary
+    /// search.
     pub fn info(&self, code: u32) -> CharInfo
         requires { code ≤ code_point_max }
         ensures info { result ≡ table_info self.now code }
@@ -64,7 +65,7 @@ impl CharTable {
         }
     }
 
-    /// How many categories there are, of which those of each code point are some.
+    /// Returns the number of categories. The categories of each code point are among them.
     pub fn count(&self) -> usize
         ensures count { result ≡ length self.now.categories }
         ensures formed { IsCategoryTable self.now }
@@ -72,12 +73,12 @@ impl CharTable {
         self.definitions.len()
     }
 
-    /// The ranges of code points with the same categories, in their order.
-    pub fn ranges(&self, alloc: Global) -> Result<Vec<InfoRange>, AllocError>
+    /// Returns the ranges of code points with equal categories, in ascending order.
+    pub fn ranges(&self, alloc: Global) -> Result<Vec<CategoryRange>, AllocError>
         ensures { IfOk result (λ ranges. AreRangesOf self.now ranges.items) }
     {
         let mut ranges = Vec::with_capacity(alloc, self.steps.len() + 1)?;
-        ranges.push(InfoRange {
+        ranges.push(CategoryRange {
             first: 0,
             info: self.info(0),
         })?;
@@ -87,14 +88,14 @@ impl CharTable {
         Ok(ranges)
     }
 
-    /// The number of the category of this name.
+    /// Returns the number of the category with this name.
     pub(crate) fn number_of(&self, name: &[u8]) -> Option<usize>
         ensures { IsNumberOf self.now.categories name.now result }
     {
         number_of(&self.definitions, name)
     }
 
-    /// The name of category `i`.
+    /// Returns the name of category `i`.
     pub fn name(&self, i: usize) -> &str
         requires { i < length self.now.categories }
         ensures { result.now ≡ (category_at self.now i).name }
@@ -102,7 +103,7 @@ impl CharTable {
         self.definitions[i].name.as_str()
     }
 
-    /// Category `i`.
+    /// Returns category `i`.
     pub fn category(&self, i: usize) -> Category
         requires { i < length self.now.categories }
         ensures { result ≡ (category_at self.now i).category }
@@ -111,18 +112,21 @@ impl CharTable {
     }
 }
 
-/// The categories that `char.def` defines, and those that it gives to code points: a code point has those of the last mapping
-/// that covers it, else DEFAULT. (MeCab, `char.def`; what it leaves open is this project's own choice)
+/// Reads the categories of a `char.def` and its mappings from code points to categories.
+///
+/// A code point has the categories of the last mapping that covers it, or DEFAULT if there is none.
+/// (MeCab, `char.def`; what it leaves open is this project's own choice)
 pub fn read_chars(alloc: Global, bytes: &[u8]) -> Result<CharTable, SourceFault>
     ensures accepted { IfOk result (IsTableIn bytes.now) }
-    ensures refused { IfErr result (λ fault. IsRefusal fault (char_source bytes.now ≡ Err fault)) }
+    ensures rejected { IfErr result
+        (λ fault. IsMemoryOr fault (char_source bytes.now ≡ Err fault)) }
 {
     let CharLines {
         definitions,
         mappings,
     } = read_lines(alloc, bytes)?;
-    let default = single(&definitions, "DEFAULT", SourceKind::NoDefault)?;
-    let _ = single(&definitions, "SPACE", SourceKind::NoSpace)?;
+    let default = set_of_one(&definitions, "DEFAULT", SourceKind::NoDefault)?;
+    let _ = set_of_one(&definitions, "SPACE", SourceKind::NoSpace)?;
     let mapped = look_up(alloc, mappings, &definitions)?;
     let steps = coverage(alloc, &mapped)?;
     Ok(CharTable {
@@ -132,10 +136,15 @@ pub fn read_chars(alloc: Global, bytes: &[u8]) -> Result<CharTable, SourceFault>
     })
 }
 
-/// The category of a name alone, which `char.def` has to define.
-fn single(definitions: &[Definition], name: &str, kind: SourceKind) -> Result<CharInfo, SourceFault>
+/// Returns the set of only the category `name`, or an error of this kind if `char.def` does not
+/// define it.
+fn set_of_one(
+    definitions: &[Definition],
+    name: &str,
+    kind: SourceKind,
+) -> Result<CharInfo, SourceFault>
     requires { length definitions.now ≤ CategoriesMax }
-    ensures { AnswersInfo (definitions_are definitions.now) name.now kind result }
+    ensures { IsInfoResult (definitions_are definitions.now) name.now kind result }
 {
     match number_of(definitions, name.as_bytes()) {
         Some(number) => Ok(CharInfo {

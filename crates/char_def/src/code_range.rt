@@ -2,7 +2,7 @@
 ghost use Rattle.std.specs.Prelude.{◌≤◌};
 ghost use Rattle.mj_model.specs.CharDef.{code_point_max};
 
-/// Code points from `low` to `high`.
+/// The code points from `low` to `high`, both included.
 #[derive(Clone, Copy)]
 pub(crate) struct CodeRange {
     pub(crate) low: u32,

@@ -1,15 +1,20 @@
 //! The categories of each code point.
 ghost use Rattle.std.specs.Prelude.{◌∷◌, [], map, IfOk};
-ghost use Rattle.char_def.specs.Mapped.{said_by, IsCoverage};
+ghost use Rattle.char_def.specs.Mapped.{range_categories_by, IsCoverage};
 
 use crate::mapped::MappedRange;
-use crate::overlay::{Step, overlay};
+use crate::overlay::{CategoryStep, overlay};
 use std::alloc::{AllocError, Global};
 
-/// What the last range that covers a code point says of it. As in a merge sort, the ranges of the first half and those of the
-/// second are worked out each by itself, and the second's are laid over the first's.
-pub(crate) fn coverage(alloc: Global, ranges: &[MappedRange]) -> Result<Vec<Step>, AllocError>
-    ensures { IfOk result (λ steps. IsCoverage (map said_by ranges.now) steps.items) }
+/// Returns steps that give each code point the categories of the last range that covers it.
+///
+/// As in a merge sort, both halves of the ranges are processed separately. The steps of the second
+/// half are then laid over those of the first.
+pub(crate) fn coverage(
+    alloc: Global,
+    ranges: &[MappedRange],
+) -> Result<Vec<CategoryStep>, AllocError>
+    ensures { IfOk result (λ steps. IsCoverage (map range_categories_by ranges.now) steps.items) }
 {
     match ranges {
         [] => Ok(Vec::new(alloc)),
@@ -23,16 +28,16 @@ pub(crate) fn coverage(alloc: Global, ranges: &[MappedRange]) -> Result<Vec<Step
     }
 }
 
-/// What one range says.
-fn steps_of(alloc: Global, range: MappedRange) -> Result<Vec<Step>, AllocError>
-    ensures { IfOk result (λ steps. IsCoverage (said_by range ∷ []) steps.items) }
+/// Returns the steps of a single range.
+fn steps_of(alloc: Global, range: MappedRange) -> Result<Vec<CategoryStep>, AllocError>
+    ensures { IfOk result (λ steps. IsCoverage (range_categories_by range ∷ []) steps.items) }
 {
     let mut steps = Vec::with_capacity(alloc, 2)?;
-    steps.push(Step {
+    steps.push(CategoryStep {
         first: range.range.low,
         info: Some(range.info),
     })?;
-    steps.push(Step {
+    steps.push(CategoryStep {
         first: range.range.high + 1,
         info: None,
     })?;

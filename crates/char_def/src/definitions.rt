@@ -1,6 +1,6 @@
 //! The categories that `char.def` defines.
 ghost use Rattle.std.specs.Prelude.{◌≡◌, ◌≤◌, ◌++◌, ◌∷◌, [], length, None, IfErr, OnOk};
-ghost use Rattle.char_def.specs.Answers.{IsDefinitionRefusal, IsNumberOf};
+ghost use Rattle.char_def.specs.Results.{IsDefinitionError, IsNumberOf};
 ghost use Rattle.mj_model.specs.declared.limits.TheConstants.{CATEGORIES_MAX as CategoriesMax};
 ghost use Rattle.mj_model.specs.CharDef.{Defines, line_fault};
 ghost use Rattle.char_def.specs.CharLines.{category_is};
@@ -11,7 +11,7 @@ use mj_model::{CATEGORIES_MAX, Category, SourceKind};
 use std::alloc::Global;
 use std::string::String;
 
-/// A category and its name.
+/// A category with its name.
 #[derive(Drop)]
 pub struct Definition {
     pub name: String,
@@ -30,7 +30,7 @@ pub(crate) fn define(
     ensures added { OnOk result (definitions_are definitions.new.items
         ≡ definitions_are definitions.old.items ++ category_is line.entry ∷ []) }
     ensures few { OnOk result (length definitions.new.items ≤ CategoriesMax) }
-    ensures refused { IfErr result (IsDefinitionRefusal (definitions_are definitions.old.items)
+    ensures rejected { IfErr result (IsDefinitionError (definitions_are definitions.old.items)
         (Defines (category_is line.entry))) }
 {
     if number_of(definitions, line.name.as_bytes()).is_some() {
@@ -46,7 +46,7 @@ pub(crate) fn define(
     Ok(())
 }
 
-/// The number of the category of this name.
+/// Returns the number of the category with this name.
 pub(crate) fn number_of(definitions: &[Definition], name: &[u8]) -> Option<usize>
     ensures { IsNumberOf (definitions_are definitions.now) name.now result }
 {

@@ -1,4 +1,4 @@
-//! Ranges of code points with the same categories.
+//! Ranges of code points with equal categories.
 ghost use Rattle.std.specs.Prelude.{◌≡◌, ◌≢◌, ◌≤◌, ◌<◌, ◌++◌, ◌∷◌, [], length, OnOk};
 ghost use Rattle.mj_model.specs.CharDef.{code_point_max};
 ghost use Rattle.char_def.specs.InfoRanges.{last_info};
@@ -6,16 +6,17 @@ ghost use Rattle.char_def.specs.InfoRanges.{last_info};
 use mj_model::{CODE_POINT_MAX, CharInfo};
 use std::alloc::AllocError;
 
-/// The code points from `first` on, up to the next range, have these categories.
+/// The categories of the code points from `first` up to the next range.
 #[derive(Clone, Copy)]
-pub struct InfoRange {
+pub struct CategoryRange {
     pub first: u32,
     pub info: CharInfo,
 }
 
-/// Adds a range after the others, unless it has the categories of the last one or begins above all code points.
+/// Adds a range after the others, unless it has the categories of the last one or starts above all
+/// code points.
 pub(crate) fn push_range(
-    ranges: &mut Vec<InfoRange>,
+    ranges: &mut Vec<CategoryRange>,
     first: u32,
     info: CharInfo,
 ) -> Result<(), AllocError>
@@ -29,7 +30,7 @@ pub(crate) fn push_range(
 {
     let last = ranges[ranges.len() - 1];
     if last.info != info && first <= CODE_POINT_MAX {
-        ranges.push(InfoRange { first, info })?;
+        ranges.push(CategoryRange { first, info })?;
     }
     Ok(())
 }

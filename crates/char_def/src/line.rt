@@ -1,35 +1,35 @@
 //! Lines of `char.def`.
 ghost use Rattle.std.specs.Prelude.{◌≡◌, ◌∷◌, ◌<◌, ℕ, List, Some, None, true, false, length, MatchResult, option_map};
-ghost use Rattle.char_def.specs.Answers.{IsNameIn};
+ghost use Rattle.char_def.specs.Results.{IsNameIn};
 ghost use Rattle.std.specs.List.{list_all};
 ghost use Rattle.mj_model.specs.CharDef.{Bad, Maps, is_name, flag as flag_of, category_of, category_from, mapping_line as mapping_of, char_line, words_before_comment};
 ghost use Rattle.mj_model.specs.Numbers.{natural_in};
 ghost use Rattle.char_def.specs.CharLines.{category_is, line_is, mapping_is};
 
 use crate::code_range::CodeRange;
-use crate::hexadecimal::begins_with_hex;
+use crate::hexadecimal::starts_with_hex;
 use crate::line_words::LineWords;
 use crate::range::code_range;
 use lex_source::number;
 use mj_model::{CATEGORY_LENGTH_MAX, CATEGORY_NAME_MAX, Category, SourceKind};
 
-/// What a line says.
+/// The contents of a line.
 #[derive(Drop)]
 pub(crate) enum CharLine<'a> {
-    /// It is blank or only a comment.
+    /// A blank line, or only a comment.
     Nothing,
     Category(CategoryLine<'a>),
     Mapping(MappingLine<'a>),
 }
 
-/// A category and its name.
+/// A category with its name.
 #[derive(Clone, Copy)]
 pub(crate) struct CategoryLine<'a> {
     pub(crate) name: &'a str,
     pub(crate) category: Category,
 }
 
-/// Code points, and the names of their categories, the first one apart.
+/// A range of code points, the name of the category listed first, and the names of the others.
 #[derive(Drop)]
 pub(crate) struct MappingLine<'a> {
     pub(crate) range: CodeRange,
@@ -37,7 +37,7 @@ pub(crate) struct MappingLine<'a> {
     pub(crate) others: LineWords<'a>,
 }
 
-/// What a line says by itself.
+/// Reads a line, apart from all other lines.
 pub(crate) fn read_line(line: &[u8]) -> Result<CharLine<'_>, SourceKind>
     ensures { MatchResult result (λ read. char_line line.now ≡ line_is read)
         (λ kind. char_line line.now ≡ Bad kind) }
@@ -46,8 +46,8 @@ pub(crate) fn read_line(line: &[u8]) -> Result<CharLine<'_>, SourceKind>
     let Some(first) = words.next() else {
         return Ok(CharLine::Nothing);
     };
-    if begins_with_hex(first) {
-        let mapping = mapping_line(first, words, behind_first(line))?;
+    if starts_with_hex(first) {
+        let mapping = mapping_line(first, words, after_first(line))?;
         return Ok(CharLine::Mapping(mapping));
     }
     match category_line(first, words) {
@@ -56,7 +56,8 @@ pub(crate) fn read_line(line: &[u8]) -> Result<CharLine<'_>, SourceKind>
     }
 }
 
-/// What a mapping line says, from its first word and the names behind it, which are read twice.
+/// Reads a mapping line. `range` is its first word, and `checked` and `names` are both the names
+/// after it, which are read twice.
 fn mapping_line<'a>(
     range: &[u8],
     checked: LineWords<'a>,
@@ -83,8 +84,8 @@ fn mapping_line<'a>(
     }
 }
 
-/// The words of a line behind its first one.
-fn behind_first(line: &[u8]) -> LineWords<'_>
+/// Returns the words of a line after the first one.
+fn after_first(line: &[u8]) -> LineWords<'_>
     ensures { (word : List ℕ) (words : List (List ℕ))
         → words_before_comment line.now ≡ word ∷ words → result ≡ words }
 {
@@ -93,7 +94,7 @@ fn behind_first(line: &[u8]) -> LineWords<'_>
     words
 }
 
-/// Whether each word may be the name of a category.
+/// Returns whether each word is a valid name of a category.
 fn are_names(words: LineWords) -> bool
     ensures { result ≡ list_all is_name words.entry }
 {
@@ -105,7 +106,7 @@ fn are_names(words: LineWords) -> bool
     true
 }
 
-/// A word as the name of a category.
+/// Returns `word` as the name of a category, if it is valid.
 fn category_name(word: &[u8]) -> Option<&str>
     ensures { IsNameIn word.now result }
 {
@@ -118,7 +119,7 @@ fn category_name(word: &[u8]) -> Option<&str>
     }
 }
 
-/// What a category line says, from its first word and those behind it. (MeCab, `char.def`)
+/// Reads a category line, from its first word `name` and the words after it. (MeCab, `char.def`)
 fn category_line<'a>(name: &'a [u8], numbers: LineWords<'a>) -> Option<CategoryLine<'a>>
     ensures { option_map category_is result ≡ category_from (name.now ∷ numbers.entry) }
 {
@@ -147,7 +148,7 @@ fn flag(word: &[u8]) -> Option<bool>
     Some(natural(word, 1)? == 1)
 }
 
-/// A number from 0 to `most`.
+/// Returns the value of a number from 0 to `most`.
 fn natural(word: &[u8], most: u8) -> Option<u8>
     ensures { result ≡ natural_in most word.now }
 {

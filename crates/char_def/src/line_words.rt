@@ -7,7 +7,7 @@ ghost use Rattle.char_def.specs.LineWords.{before_comment};
 use lex_source::Words;
 use std::marker::Model;
 
-/// The words that are left of a line, up to its comment.
+/// An iterator over the words of a line up to its comment.
 #[derive(Drop)]
 pub(crate) struct LineWords<'a> {
     words: Words<'a>,
@@ -20,8 +20,8 @@ impl<'a> Model for LineWords<'a> {
 }
 
 impl<'a> LineWords<'a> {
-    /// The words of a line, up to the first one that begins with `#`. (MeCab, `char.def`; that a comment begins at a word is
-    /// this project's own choice)
+    /// Returns the words of a line up to the first one that starts with `#`. (MeCab, `char.def`;
+    /// that a comment starts at a word is this project's own choice)
     pub(crate) fn new(line: &'a [u8]) -> LineWords<'a>
         ensures { result ≡ words_before_comment line.now }
     {

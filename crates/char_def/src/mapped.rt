@@ -1,9 +1,9 @@
-//! What a mapping says of code points.
+//! Mappings from code points to categories.
 
 use crate::code_range::CodeRange;
 use mj_model::CharInfo;
 
-/// Code points with their categories.
+/// A range of code points with its categories.
 #[derive(Clone, Copy)]
 pub(crate) struct MappedRange {
     pub(crate) range: CodeRange,

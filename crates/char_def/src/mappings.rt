@@ -1,11 +1,11 @@
 //! The mappings of `char.def`.
 ghost use Rattle.std.specs.Prelude.{◌≡◌, ◌≤◌, map, length, None, Some, IfOk, IfErr};
-ghost use Rattle.char_def.specs.Answers.{IsInfoOfNames};
+ghost use Rattle.char_def.specs.Results.{IsInfoOfNames};
 ghost use Rattle.mj_model.specs.declared.limits.TheConstants.{CATEGORIES_MAX as CategoriesMax};
-ghost use Rattle.mj_model.specs.FirstFault.{IsRefusal};
-ghost use Rattle.char_def.specs.CharLines.{all_said, first_undefined, mappings_are};
+ghost use Rattle.mj_model.specs.FirstFault.{IsMemoryOr};
+ghost use Rattle.char_def.specs.CharLines.{all_range_categories, first_undefined, mappings_are};
 ghost use Rattle.char_def.specs.Definitions.{definitions_are};
-ghost use Rattle.char_def.specs.Mapped.{said_by};
+ghost use Rattle.char_def.specs.Mapped.{range_categories_by};
 
 use crate::char_lines::NumberedMapping;
 use crate::definitions::{Definition, number_of};
@@ -14,7 +14,8 @@ use crate::mapped::MappedRange;
 use mj_model::{CHAR_FILE, CharInfo, SourceFault, SourceKind};
 use std::alloc::Global;
 
-/// What the mappings say of code points, up to the first that names a category that is not defined.
+/// Returns the categories that the mappings give to code points. A mapping with an undefined
+/// category is an error.
 pub(crate) fn look_up(
     alloc: Global,
     mappings: Vec<NumberedMapping>,
@@ -23,9 +24,10 @@ pub(crate) fn look_up(
     requires { length definitions.now ≤ CategoriesMax }
     ensures accepted { IfOk result (λ mapped. first_undefined (definitions_are definitions.now)
         (mappings_are mappings.entry.items) ≡ None) }
-    ensures mapped { IfOk result (λ mapped. map said_by mapped.items
-        ≡ all_said (definitions_are definitions.now) (mappings_are mappings.entry.items)) }
-    ensures refused { IfErr result (λ fault. IsRefusal fault
+    ensures mapped { IfOk result (λ mapped. map range_categories_by mapped.items
+        ≡ all_range_categories (definitions_are definitions.now)
+        (mappings_are mappings.entry.items)) }
+    ensures rejected { IfErr result (λ fault. IsMemoryOr fault
         (first_undefined (definitions_are definitions.now)
         (mappings_are mappings.entry.items) ≡ Some fault)) }
 {
@@ -42,7 +44,7 @@ pub(crate) fn look_up(
     Ok(mapped)
 }
 
-/// The categories of these names, or None where one is not defined.
+/// Returns the categories with these names, or `None` if one is undefined.
 fn info_of(definitions: &[Definition], first: &[u8], others: LineWords) -> Option<CharInfo>
     requires { length definitions.now ≤ CategoriesMax }
     ensures { IsInfoOfNames (definitions_are definitions.now) first.now others.entry result }

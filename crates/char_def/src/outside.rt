@@ -5,7 +5,7 @@ ghost use Rattle.char_def.specs.Outside.{is_outside as is_row_outside, lines_out
 
 use mj_model::{MatrixSizes, Record};
 
-/// The least of `first` and the lines of those records that lie outside the sizes.
+/// Returns the least of `first` and of the lines of the records whose ids lie outside the sizes.
 pub(crate) fn least_line_outside(
     records: &[Record<'_>],
     sizes: MatrixSizes,
@@ -23,14 +23,14 @@ pub(crate) fn least_line_outside(
     least
 }
 
-/// Whether the ids don't lie within the sizes.
+/// Returns whether an id lies outside the sizes.
 fn is_outside(row: &Record<'_>, sizes: MatrixSizes) -> bool
     ensures { result ≡ is_row_outside sizes (row_of row.now) }
 {
     !sizes.contains(row.entry.right, row.entry.left)
 }
 
-/// The lesser of a line and the one before it, if there is one.
+/// Returns the lesser of `line` and of `before`, if that is a line.
 fn earlier(before: Option<u64>, line: u64) -> u64
     ensures { (lines : List ℕ) → IsLeastOf lines before → IsLeast (lines ++ line ∷ []) result }
 {

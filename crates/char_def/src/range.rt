@@ -1,6 +1,6 @@
-//! Ranges of code points, as words.
+//! Ranges of code points, as words of a line.
 ghost use Rattle.std.specs.Prelude.{◌≡◌, None, Some};
-ghost use Rattle.char_def.specs.Answers.{AnswersRange, AnswersRangeFrom};
+ghost use Rattle.char_def.specs.Results.{IsRangeResult, IsRangeFromResult};
 ghost use Rattle.mj_model.specs.CharDef.{high_end as high_end_of};
 ghost use Rattle.char_def.specs.Hex.{up_to_max};
 
@@ -9,9 +9,9 @@ use crate::hexadecimal::hexadecimal;
 use lex_source::split_first;
 use mj_model::CODE_POINT_MAX;
 
-/// `0xHEX` or `0xLOW..0xHIGH`. (MeCab, `char.def`)
+/// Reads `0xHEX` or `0xLOW..0xHIGH`. (MeCab, `char.def`)
 pub(crate) fn code_range(word: &[u8]) -> Option<CodeRange>
-    ensures { AnswersRange result word.now }
+    ensures { IsRangeResult result word.now }
 {
     match split_first(word, b'.') {
         Some((low, rest)) => range_between(hexadecimal(low)?, high_end(rest)?),
@@ -22,7 +22,8 @@ pub(crate) fn code_range(word: &[u8]) -> Option<CodeRange>
     }
 }
 
-/// The high end, behind a second full stop.
+/// Reads the high end of a range, which follows the second full stop. `rest` is what follows the
+/// first one.
 fn high_end(rest: &[u8]) -> Option<u32>
     ensures { result ≡ up_to_max (high_end_of rest.now) }
 {
@@ -32,9 +33,9 @@ fn high_end(rest: &[u8]) -> Option<u32>
     }
 }
 
-/// A range within Unicode. Numbers above it are all one.
+/// Returns the range from `low` to `high`, if it is a range within Unicode.
 fn range_between(low: u32, high: u32) -> Option<CodeRange>
-    ensures { AnswersRangeFrom result low high }
+    ensures { IsRangeFromResult result low high }
 {
     if low <= high && high <= CODE_POINT_MAX {
         Some(CodeRange { low, high })

@@ -1,9 +1,9 @@
 //! The lines of `unk.def`, by category.
 ghost use Rattle.std.specs.Prelude.{◌≡◌, ◌≤◌, ◌<◌, [], replicate, length, Ok, Err, IfOk, IfErr, OnOk};
-ghost use Rattle.char_def.specs.Answers.{AreListsIn, IsUnkRefusal, with_row};
+ghost use Rattle.char_def.specs.Results.{AreListsIn, IsUnkError, with_row};
 ghost use Rattle.mj_model.specs.declared.limits.TheConstants.{CATEGORIES_MAX as CategoriesMax};
 ghost use Rattle.mj_model.specs.declared.source_fault.TheConstants.{UNK_FILE as UnkFile};
-ghost use Rattle.mj_model.specs.FirstFault.{IsRefusal};
+ghost use Rattle.mj_model.specs.FirstFault.{IsMemoryOr};
 ghost use Rattle.mj_model.specs.Lexicon.{ReadsAs, row_of};
 ghost use Rattle.mj_model.specs.UnkDef.{unk_outcome, first_without_rows};
 ghost use Rattle.char_def.specs.UnkRows.{lists_are, HasAdded};
@@ -13,7 +13,7 @@ use lex_source::{lines, read_record};
 use mj_model::{ENTRIES_MAX, Record, SourceFault, SourceKind, UNK_FILE};
 use std::alloc::{AllocError, Global};
 
-/// The lines of each category, up to the first bad line.
+/// Returns the lines of each category, or the error of the first invalid line.
 pub(crate) fn read_lines<'a>(
     alloc: Global,
     bytes: &'a [u8],
@@ -23,7 +23,7 @@ pub(crate) fn read_lines<'a>(
         (lists_are lists.items)) }
     ensures count { IfOk result (λ lists. length lists.items ≡ length table.now.categories) }
     ensures few { IfOk result (λ lists. length lists.items ≤ CategoriesMax) }
-    ensures refused { IfErr result (λ fault. IsRefusal fault
+    ensures rejected { IfErr result (λ fault. IsMemoryOr fault
         (ReadsAs (unk_outcome table.now.categories) UnkFile 0 bytes.now (Err fault))) }
 {
     let mut lists = empty_lists(alloc, table.count())?;
@@ -37,7 +37,8 @@ pub(crate) fn read_lines<'a>(
     Ok(lists)
 }
 
-/// Adds a line to those of its category, where `held` lines are held, and answers how many are held then.
+/// Adds a line to the list of its category. `held` lines were added before, and the result is their
+/// new number.
 fn add_line<'a>(
     alloc: Global,
     number: u64,
@@ -50,7 +51,7 @@ fn add_line<'a>(
     ensures added { IfOk result (λ now. HasAdded table.now.categories number line.now held now
         lists.old.items lists.new.items) }
     ensures count { OnOk result (length lists.new.items ≡ length lists.old.items) }
-    ensures refused { IfErr result (IsUnkRefusal table.now.categories number line.now held) }
+    ensures rejected { IfErr result (IsUnkError table.now.categories number line.now held) }
 {
     let Some(record) = read_record(alloc, number, line)? else {
         return Ok(held);
@@ -65,7 +66,7 @@ fn add_line<'a>(
     Ok(held + 1)
 }
 
-/// Adds a record to those of a category.
+/// Appends a record to the list of a category.
 fn add<'a>(
     lists: &mut Vec<Vec<Record<'a>>>,
     category: usize,
@@ -90,7 +91,7 @@ fn empty_lists<'a>(alloc: Global, count: usize) -> Result<Vec<Vec<Record<'a>>>, 
     Ok(lists)
 }
 
-/// The first category without a line, or how many categories there are.
+/// Returns the first category without a line, or the number of categories.
 pub(crate) fn first_empty(lists: &[Vec<Record<'_>>]) -> usize
     ensures first { result ≡ first_without_rows (lists_are lists.now) }
     ensures within { result ≤ length lists.now }

@@ -1,6 +1,6 @@
 //! Unknown entries, as `unk.def` lists them.
 ghost use Rattle.std.specs.Prelude.{◌≡◌, ◌<◌, [], length, slice_index_or, Ok, Err, IfOk, IfErr, MatchOption};
-ghost use Rattle.mj_model.specs.FirstFault.{IsRefusal};
+ghost use Rattle.mj_model.specs.FirstFault.{IsMemoryOr};
 ghost use Rattle.mj_model.specs.Lexicon.{rows_of};
 ghost use Rattle.mj_model.specs.UnkDef.{IsUnkDef};
 ghost use Rattle.char_def.specs.UnknownLists.{AreUnknownLists};
@@ -33,7 +33,7 @@ impl<'a> Model for UnkTable<'a> {
 }
 
 impl<'a> UnkTable<'a> {
-    /// How many categories there are.
+    /// Returns the number of categories.
     pub fn count(&self) -> usize
         ensures count { result ≡ length self.now }
         ensures formed { AreUnknownLists self.now }
@@ -41,7 +41,7 @@ impl<'a> UnkTable<'a> {
         self.lists.len()
     }
 
-    /// The lines of category `i`, in their order. There is at least one.
+    /// Returns the lines of category `i` in their order, which are at least one.
     pub fn lines(&self, i: usize) -> &[Record<'a>]
         requires { i < length self.now }
         ensures { rows_of result.now ≡ slice_index_or self.now i [] }
@@ -49,7 +49,7 @@ impl<'a> UnkTable<'a> {
         &self.lists[i]
     }
 
-    /// The first line of `unk.def` whose ids don't lie within the sizes.
+    /// Returns the first line of `unk.def` whose ids lie outside the sizes.
     pub fn first_line_outside(&self, sizes: MatrixSizes) -> Option<u64>
         ensures { MatchOption result (all_lines_outside sizes self.now ≡ [])
             (IsLeast (all_lines_outside sizes self.now)) }
@@ -62,8 +62,10 @@ impl<'a> UnkTable<'a> {
     }
 }
 
-/// The unknown entries of the categories of `table`; each line has a lexicon's form, with the name of a category as its surface.
-/// (MeCab, `unk.def`; that a category without a line is refused too)
+/// Reads the unknown entries of the categories of `table`.
+///
+/// Each line has the form of a lexicon line, with the name of a category as its surface. A category
+/// without a line is an error. (MeCab, `unk.def`)
 pub fn read_unk<'a>(
     alloc: Global,
     bytes: &'a [u8],
@@ -71,7 +73,7 @@ pub fn read_unk<'a>(
 ) -> Result<UnkTable<'a>, SourceFault>
     ensures accepted { IfOk result (λ unk. IsUnkDef table.now.categories bytes.now (Ok unk)) }
     ensures count { IfOk result (λ unk. length unk ≡ length table.now.categories) }
-    ensures refused { IfErr result (λ fault. IsRefusal fault
+    ensures rejected { IfErr result (λ fault. IsMemoryOr fault
         (IsUnkDef table.now.categories bytes.now (Err fault))) }
 {
     let lists = read_lines(alloc, bytes, table)?;

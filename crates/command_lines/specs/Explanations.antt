@@ -1,8 +1,8 @@
--- What the code of a fault means.
+-- The explanations of error codes.
 use Rattle.std.specs.Prelude.{ℕ, ◌⊎◌, List}
-use Rattle.command_lines.specs.Asked.{IsSameWord}
+use Rattle.command_lines.specs.Words.{IsSameWord}
 use Rattle.command_lines.specs.declared.explanation.Explanation.{Explanation}
 
--- the code or the name of a fault is this word, in any letters
+-- the word is the code or the name of the error, in upper or lower case
 abbrev pub IsCalled : Explanation → List ℕ → Type 0
 IsCalled one asked = IsSameWord one.code.now asked ⊎ IsSameWord one.name.now asked

@@ -1,3 +1,3 @@
-pub mod Asked
+pub mod Words
 pub mod Explanations
 pub mod Statuses

@@ -2,8 +2,8 @@
 
 mod choices;
 mod command;
-mod mecab_habits;
+mod mecab_hints;
 mod rows;
 
-pub use choices::{Asked, Base, IdsOptions, Options};
-pub use command::options;
+pub use choices::{Base, Command, IdsOptions, Options};
+pub use command::parse_command;

@@ -1,17 +1,12 @@
-//! What the code of a fault means, for whoever meets it.
+//! The explanations of error codes.
 
-ghost use Rattle.std.specs.Prelude.{◌≡◌, ◌↔◌, IfSome, IsTrue};
-
-mod calls;
-mod images;
-mod runs;
-mod sources;
+ghost use Rattle.std.specs.Prelude.{◌↔◌, IsTrue};
 
 use std::alloc::{AllocError, Global};
 use std::fmt::{self, Display, Formatter, Write};
 use std::string::String;
 
-/// What a fault means, its usual cause, and what to do.
+/// The meaning of an error, its usual cause, and what to do.
 #[derive(Clone, Copy)]
 pub struct Explanation {
     pub code: &'static str,
@@ -21,67 +16,31 @@ pub struct Explanation {
     pub cure: &'static str,
 }
 
-/// The explanations, those of one subject after those of another.
-fn subjects() -> [&'static [Explanation]; 12] {
-    [
-        sources::of_matrix(),
-        sources::of_lines(),
-        sources::of_categories(),
-        sources::of_unknown(),
-        sources::of_dictionary(),
-        images::of_bytes(),
-        images::of_overlays(),
-        images::of_files(),
-        runs::of_text(),
-        runs::of_formats(),
-        runs::of_memory(),
-        calls::of_calls(),
-    ]
-}
-
-/// The explanation of the fault with a code, as `L4`; None where no fault has it.
-pub fn explanation_of(code: &str) -> Option<Explanation>
-    ensures { IfSome result (λ found. found.code.now ≡ code.now) }
-{
-    for subject in subjects() {
-        if let Some(found) = explanation_in(subject, code) {
-            return Some(found);
-        }
-    }
-    None
-}
-
-/// The one of these with a code.
-fn explanation_in(explanations: &[Explanation], code: &str) -> Option<Explanation>
-    ensures { IfSome result (λ found. found.code.now ≡ code.now) }
-{
-    for one in explanations {
-        if one.code == code {
-            return Some(*one);
-        }
-    }
-    None
-}
-
-/// The explanations of the faults that have this code or name, in any letters; empty where no fault has it. A name may be several faults'.
-pub(crate) fn explained(alloc: Global, asked: &str) -> Result<String, AllocError> {
+/// Returns the explanations of the errors with this code or name, in upper or lower case; empty if
+/// there are none. Several errors may have the same name.
+pub(crate) fn explained(
+    alloc: Global,
+    subjects: &[&[Explanation]],
+    asked: &str,
+) -> Result<String, AllocError> {
     let mut text = String::new(alloc);
-    for subject in subjects() {
-        explain(alloc, subject, asked, &mut text)?;
+    for subject in subjects {
+        explain(alloc, *subject, asked, &mut text)?;
     }
     Ok(text)
 }
 
-/// The codes and names of all faults, a line each.
-pub(crate) fn codes(alloc: Global) -> Result<String, AllocError> {
+/// Returns the codes and names of all errors, one error a line.
+pub(crate) fn codes(alloc: Global, subjects: &[&[Explanation]]) -> Result<String, AllocError> {
     let mut text = String::new(alloc);
-    for subject in subjects() {
-        list(alloc, subject, &mut text)?;
+    for subject in subjects {
+        list(alloc, *subject, &mut text)?;
     }
     Ok(text)
 }
 
-/// Appends those of one subject that are asked for, with a blank line before each that is not the first.
+/// Appends the explanations of one subject that have the code or name `asked`, separated by blank
+/// lines.
 fn explain(
     alloc: Global,
     subject: &[Explanation],
@@ -111,7 +70,7 @@ fn list(alloc: Global, subject: &[Explanation], text: &mut String) -> Result<(),
 impl Explanation {
     ghost use Rattle.command_lines.specs.Explanations.{IsCalled};
 
-    /// Whether this is its code or its name, in any letters.
+    /// Returns whether `asked` is the code or the name, in upper or lower case.
     fn is_called(&self, asked: &str) -> bool
         ensures { IsTrue result ↔ IsCalled self.now asked.now }
     {
@@ -119,7 +78,7 @@ impl Explanation {
     }
 }
 
-/// The code of a fault, and its name where that is another word.
+/// Displays the code of an error, and its name if that differs from the code.
 #[derive(Drop)]
 struct Heading<'a>(&'a Explanation);
 

@@ -2,8 +2,8 @@
 
 mod choices;
 mod command;
-mod mecab_habits;
+mod mecab_hints;
 mod rows;
 
-pub use choices::{Form, Input, LatticeChoice, Options, Task, ViewChoice};
-pub use command::task;
+pub use choices::{Command, Form, Input, LatticeChoice, Options, ViewChoice};
+pub use command::parse_command;

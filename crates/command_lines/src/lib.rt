@@ -1,4 +1,16 @@
-//! The command lines of the programs: what each takes, and what it is asked for; what the codes of faults mean.
+//! The command lines of `dictc` and `jseg`. Use this crate to parse a command line into the command
+//! that it requests. `dictc_lib` and `jseg_lib` run such commands. What a program prints about its
+//! options and errors is passed as `Texts`; `messages` has those of both programs.
+//!
+//! Example:
+//!
+//! ```text
+//! // words: "-d", "sys.img", "-u", "u.img"
+//! let command = jseg::parse_command(alloc, words, &texts)?;
+//! // Command::Segment of options with the input Images { dic: "sys.img", users: ["u.img"], .. }
+//! // and the grouping 24
+//! ```
+//! The test `command_lines` of `crates/program_tests` (`of_command_lines/jseg.rt`) runs it.
 #![tactic(auto)]
 
 mod about;
@@ -8,10 +20,11 @@ pub mod jseg;
 mod one_line;
 mod options_fault;
 mod row;
+mod texts;
 mod words;
 
-pub use about::VERSION;
-pub use explanation::{Explanation, explanation_of};
-pub use one_line::OneLine;
+pub use explanation::Explanation;
+pub use one_line::EscapedLine;
 pub use options_fault::OptionsFault;
-pub use words::words_given;
+pub use texts::Texts;
+pub use words::arguments;

@@ -1,12 +1,12 @@
-//! Text that is told in lines.
+//! Displaying text with escaped control characters.
 
 use std::fmt::{self, Display, Formatter, Write};
 
-/// A path or a word as it is told, in one line: its control characters are escaped, as `\n` or `\u{1b}`.
+/// Displays a path or a word in one line. Control characters are escaped, such as `\n` or `\u{1b}`.
 #[derive(Clone, Copy)]
-pub struct OneLine<'a>(pub &'a str);
+pub struct EscapedLine<'a>(pub &'a str);
 
-impl Display for OneLine<'_> {
+impl Display for EscapedLine<'_> {
     fn fmt<W: Write>(&self, f: &mut Formatter<W>) -> fmt::Result {
         for character in self.0.chars() {
             write_escaped(f, character)?;
@@ -15,14 +15,16 @@ impl Display for OneLine<'_> {
     }
 }
 
-/// What stands for a line feed of a word in `ToldLines`: a record separator, which no option's name has.
-pub(crate) const WORDS_FEED: &str = "\u{1e}";
+/// Stands in for a line feed of a word in `EscapedLines`: a record separator, which no option's
+/// name contains.
+pub(crate) const FEED_PLACEHOLDER: &str = "\u{1e}";
 
-/// A text of lines in which words stand, as it is told: all control characters but its line feeds are escaped.
+/// Displays a text of several lines that quotes words. All control characters except the line feeds
+/// of the text are escaped.
 #[derive(Clone, Copy)]
-pub(crate) struct ToldLines<'a>(pub &'a str);
+pub(crate) struct EscapedLines<'a>(pub &'a str);
 
-impl Display for ToldLines<'_> {
+impl Display for EscapedLines<'_> {
     fn fmt<W: Write>(&self, f: &mut Formatter<W>) -> fmt::Result {
         for character in self.0.chars() {
             match character {
@@ -35,7 +37,7 @@ impl Display for ToldLines<'_> {
     }
 }
 
-/// Writes a character, and a control character escaped.
+/// Writes a character. Control characters are escaped.
 fn write_escaped<W: Write>(f: &mut Formatter<W>, character: char) -> fmt::Result {
     if character.is_control() {
         write!(f, "{}", character.escape_default())

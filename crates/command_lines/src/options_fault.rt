@@ -1,28 +1,30 @@
-//! Why a command line makes no choices.
+//! Why parsing a command line gave no command.
 
 ghost use Rattle.std.specs.Prelude.{◌≡◌};
-ghost use Rattle.command_lines.specs.Statuses.{status_told};
+ghost use Rattle.command_lines.specs.Statuses.{exit_status};
 
-use crate::one_line::{OneLine, ToldLines};
+use crate::one_line::{EscapedLine, EscapedLines};
 use clap::Error;
 use clap::error::ErrorKind as ParserKind;
 use std::alloc::{AllocError, Global};
 use std::io::{self, ErrorKind};
 use std::string::String;
 
-/// Why there are no choices.
+/// Why a command line gave no command.
 #[derive(Debug, Drop)]
 pub enum OptionsFault {
-    /// Help, the version or an explanation was asked for: the text to print on standard output, with status 0.
+    /// Help, the version or an explanation was requested. The text is for standard output, and the
+    /// exit status is 0.
     Help(String),
-    /// The command line is wrong: the text to print on standard error, with status 2.
+    /// The command line is invalid. The text is for standard error, and the exit status is 2.
     Bad(String),
-    /// Memory was refused.
+    /// An allocation failed.
     Memory,
 }
 
 impl OptionsFault {
-    /// The fault of words that can't be had: memory was refused, or an argument is not UTF-8.
+    /// Returns the error if the arguments can't be read: an allocation failed, or an argument is
+    /// not UTF-8.
     pub fn of_words(alloc: Global, program: &str, error: &io::Error) -> OptionsFault {
         if error.kind() == ErrorKind::OutOfMemory {
             return OptionsFault::Memory;
@@ -30,24 +32,29 @@ impl OptionsFault {
         bad(format!(in alloc; "{program}: an argument is not UTF-8\n"))
     }
 
-    /// The fault of a command line that the parser of words refuses, or help that it was asked for.
+    /// Returns the error of a command line that the parser rejects, or the help that was requested.
     pub fn of_parser(alloc: Global, program: &str, error: &Error) -> OptionsFault {
         if error.kind() == ParserKind::OutOfMemory {
             return OptionsFault::Memory;
         }
         match format!(in alloc; "{error}") {
-            Ok(text) if error.use_stderr() => OptionsFault::begun(alloc, program, text.as_str()),
+            Ok(text) if error.use_stderr() => OptionsFault::from_parser_text(
+                alloc,
+                program,
+                text.as_str(),
+            ),
             Ok(text) => OptionsFault::Help(text),
             Err(_) => OptionsFault::Memory,
         }
     }
 
-    /// The fault of a command line that is wrong in this way.
+    /// Returns the error of an invalid command line with this message.
     pub fn wrong(alloc: Global, program: &str, message: &str) -> OptionsFault {
         bad(format!(in alloc; "{program}: {message}\n\nFor more information, try '--help'.\n"))
     }
 
-    /// The same without the parser's tip to give an option as a word, for a program that takes no words.
+    /// Removes the parser's tip to pass an option as a word. Use it for a program that takes no
+    /// words.
     pub(crate) fn without_tip(self, alloc: Global) -> OptionsFault {
         match self {
             OptionsFault::Bad(text) => bad(without_tip(alloc, text.as_str())),
@@ -55,15 +62,15 @@ impl OptionsFault {
         }
     }
 
-    /// The same with the control characters of words escaped. The lines of the text stay.
+    /// Escapes the control characters of the quoted words. The line feeds of the text remain.
     pub(crate) fn in_lines(self, alloc: Global) -> OptionsFault {
         match self {
-            OptionsFault::Bad(text) => bad(format!(in alloc; "{}", ToldLines(text.as_str()))),
+            OptionsFault::Bad(text) => bad(format!(in alloc; "{}", EscapedLines(text.as_str()))),
             other => other,
         }
     }
 
-    /// The same with what to write in place of a word that begins as an option and is meant as the name of a file.
+    /// Adds a tip on how to write `word`, which looks like an option but is meant as a file name.
     pub(crate) fn with_file_tip(self, alloc: Global, word: Option<&str>) -> OptionsFault {
         match (self, word) {
             (OptionsFault::Bad(text), Some(word)) => bad(with_file_tip(alloc, text.as_str(), word)),
@@ -71,21 +78,22 @@ impl OptionsFault {
         }
     }
 
-    /// The same with what to type instead in place of what the parser says of a wrong command line.
-    pub(crate) fn or_instead(self, alloc: Global, program: &str, instead: &str) -> OptionsFault {
+    /// Replaces the parser's message on an invalid command line by the hint `instead`.
+    pub(crate) fn with_hint(self, alloc: Global, program: &str, instead: &str) -> OptionsFault {
         match self {
             OptionsFault::Bad(_) => OptionsFault::wrong(alloc, program, instead),
             other => other,
         }
     }
 
-    /// The fault that the parser tells with this text, which begins with the program's name in place of the parser's word.
-    fn begun(alloc: Global, program: &str, text: &str) -> OptionsFault {
-        let told = text.strip_prefix("error: ").unwrap_or(text);
-        bad(format!(in alloc; "{program}: {told}"))
+    /// Returns the error with the parser's text, in which the program's name replaces the prefix
+    /// `error: `.
+    fn from_parser_text(alloc: Global, program: &str, text: &str) -> OptionsFault {
+        let reported = text.strip_prefix("error: ").unwrap_or(text);
+        bad(format!(in alloc; "{program}: {reported}"))
     }
 
-    /// The text to print; empty where memory was refused.
+    /// Returns the text to print; empty if an allocation failed.
     pub fn text(&self) -> &str {
         match self {
             OptionsFault::Help(text) | OptionsFault::Bad(text) => text.as_str(),
@@ -93,9 +101,9 @@ impl OptionsFault {
         }
     }
 
-    /// The exit status.
+    /// Returns the exit status.
     pub fn status(&self) -> u8
-        ensures { result ≡ status_told self.now }
+        ensures { result ≡ exit_status self.now }
     {
         match self {
             OptionsFault::Help(_) => 0,
@@ -105,7 +113,8 @@ impl OptionsFault {
     }
 }
 
-/// A command line that is wrong, with the text to print where there is memory for it.
+/// Returns the error of an invalid command line with this text, or `Memory` if its allocation
+/// failed.
 fn bad(text: Result<String, AllocError>) -> OptionsFault {
     match text {
         Ok(text) => OptionsFault::Bad(text),
@@ -113,7 +122,7 @@ fn bad(text: Result<String, AllocError>) -> OptionsFault {
     }
 }
 
-/// The parts of a text, which have blank lines between them, without the parser's tip to give an option as a word.
+/// Returns the paragraphs of a text without the parser's tip to pass an option as a word.
 fn without_tip(alloc: Global, text: &str) -> Result<String, AllocError> {
     let mut kept = String::new(alloc);
     for part in text.split("\n\n") {
@@ -128,10 +137,11 @@ fn without_tip(alloc: Global, text: &str) -> Result<String, AllocError> {
     Ok(kept)
 }
 
-/// The parts of a text, with a tip behind the first one and without the parser's own.
+/// Returns the paragraphs of a text with a tip after the first one and without the parser's own
+/// tip.
 fn with_file_tip(alloc: Global, text: &str, word: &str) -> Result<String, AllocError> {
     let text = without_tip(alloc, text)?;
-    let word = OneLine(word);
+    let word = EscapedLine(word);
     let (first, others) = text.split_once("\n\n").unwrap_or((text.as_str(), ""));
     format!(in alloc; "{first}\n\n  tip: for the file '{word}' write './{word}'\n\n{others}")
 }

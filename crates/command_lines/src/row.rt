@@ -1,46 +1,47 @@
-//! What a command takes, as rows of a table.
+//! Tables of the options of a command.
 
+use crate::texts::Texts;
 use clap::builder::ValueParser;
 use clap::{Arg, ArgAction, ArgMatches, Command};
 use std::alloc::{AllocError, Global};
 use std::string::String;
 
-/// An option, or the words that are none.
+/// An option, or the positional words of a command. Its id is the key of its help.
 #[derive(Clone, Copy)]
 pub(crate) struct Row {
     pub id: &'static str,
     pub name: Name,
-    /// Whether it is a flag, has the values of its one use, or of all its uses.
+    /// Whether it is a flag, has the value of its one use, or collects the values of all its uses.
     pub action: ArgAction,
-    /// How many values a use has at least.
+    /// Minimum number of values of a use.
     pub least: usize,
-    /// How many values a use has at most.
+    /// Maximum number of values of a use.
     pub most: usize,
     pub parser: ValueParser<'static>,
-    /// What help calls its value, if it has one.
+    /// Names of its values in help.
     pub values: &'static [&'static str],
-    /// The ids of the options that may not be given with it.
+    /// Ids of the options that exclude it.
     pub excluded: &'static [&'static str],
-    /// Whether it has to be given.
+    /// Whether it is required.
     pub is_needed: bool,
     /// Whether a value may be empty or begin with `-`.
     pub is_text: bool,
-    /// Whether help leaves it out.
+    /// Whether help omits it.
     pub is_hidden: bool,
-    pub help: &'static str,
 }
 
-/// How an option is called.
+/// The name of an option.
 #[derive(Clone, Copy)]
 pub(crate) enum Name {
     Letter(char),
     Long(&'static str),
     Both(char, &'static str),
-    /// By none: these are the words that are no options.
+    /// No name: the positional words of the command.
     Words,
 }
 
-/// An option without a value. A row names what it has beside this, or one of the next.
+/// An option without a value. The other rows are written as differences from this one or one of the
+/// following.
 pub(crate) const FLAG: Row = Row {
     id: "",
     name: Name::Words,
@@ -53,10 +54,9 @@ pub(crate) const FLAG: Row = Row {
     is_needed: false,
     is_text: false,
     is_hidden: false,
-    help: "",
 };
 
-/// One that has one value.
+/// An option with one value.
 pub(crate) const VALUE: Row = Row {
     action: ArgAction::Set,
     least: 1,
@@ -65,62 +65,66 @@ pub(crate) const VALUE: Row = Row {
     ..FLAG
 };
 
-/// One that has one value or none.
+/// An option with one value or none.
 pub(crate) const MAY_HAVE_VALUE: Row = Row { least: 0, ..VALUE };
 
-/// One that has one value, and has to be given.
+/// A required option with one value.
 pub(crate) const NEEDED: Row = Row {
     is_needed: true,
     ..VALUE
 };
 
-/// One that has one value as it stands.
+/// An option with one value, which may be empty or begin with `-`.
 pub(crate) const TEXT: Row = Row {
     is_text: true,
     ..VALUE
 };
 
-/// One that has one value at each use.
+/// An option that may be given several times, with one value each.
 pub(crate) const VALUES: Row = Row {
     action: ArgAction::Append,
     ..VALUE
 };
 
-/// Words that are no options, one or more.
+/// Positional words, at least one.
 pub(crate) const WORDS: Row = Row {
     most: usize::MAX,
     is_needed: true,
     ..VALUES
 };
 
-/// One with anything, since the program refuses it: help tells what to do instead, once it was given.
-pub(crate) const REFUSED: Row = Row {
+/// An option that the program rejects. The hint of its id is printed if it is given.
+pub(crate) const REJECTED: Row = Row {
     least: 0,
     is_hidden: true,
     ..VALUES
 };
 
-/// Returns the help of the first row that was given, as the parser found it.
-pub(crate) fn help_of_given(rows: &[Row], matches: &ArgMatches<'_>) -> Option<&'static str> {
+/// Returns the id of the first row that the parser found.
+pub(crate) fn id_of_given(rows: &[Row], matches: &ArgMatches<'_>) -> Option<&'static str> {
     for row in rows {
         if matches.contains_id(row.id) {
-            return Some(row.help);
+            return Some(row.id);
         }
     }
     None
 }
 
-/// Returns the help of the first row whose name is a word before `--`, for a command line that the parser rejects.
-pub(crate) fn help_of_word(rows: &[Row], words: &[String]) -> Option<&'static str> {
-    for row in rows {
-        if is_among(row.name, words) {
-            return Some(row.help);
+/// Returns the key beside the first option that is a word before `--`. It is for command lines that
+/// the parser rejects.
+pub(crate) fn key_of_word(
+    options: &[(Name, &'static str)],
+    words: &[String],
+) -> Option<&'static str> {
+    for (name, key) in options {
+        if is_among(*name, words) {
+            return Some(*key);
         }
     }
     None
 }
 
-/// Whether a word before `--` is an option of this name.
+/// Returns whether a word before `--` is an option with this name.
 fn is_among(name: Name, words: &[String]) -> bool {
     for word in words {
         if word.as_str() == "--" {
@@ -133,22 +137,24 @@ fn is_among(name: Name, words: &[String]) -> bool {
     false
 }
 
-/// A command that takes the rows of a table too, in their order.
+/// Adds the rows of a table to a command, in their order.
 pub(crate) fn with_rows<'a>(
     alloc: Global,
     mut command: Command<'a>,
     rows: &[Row],
+    texts: &Texts<'_>,
 ) -> Result<Command<'a>, AllocError> {
     for row in rows {
-        command = command.arg(row.arg(alloc)?)?;
+        command = command.arg(row.arg(alloc, texts.help_of(row.id))?)?;
     }
     Ok(command)
 }
 
 impl Row {
-    fn arg<'a>(&self, alloc: Global) -> Result<Arg<'a>, AllocError> {
+    /// Returns the option as the parser takes it.
+    fn arg<'a>(&self, alloc: Global, help: &'static str) -> Result<Arg<'a>, AllocError> {
         let arg = Arg::new(alloc, self.id)
-            .help(self.help)
+            .help(help)
             .value_names(self.values)
             .action(self.action)
             .num_args(self.least..=self.most)
@@ -161,7 +167,7 @@ impl Row {
 }
 
 impl Name {
-    /// Whether a word is an option of this name, alone or as `--long=VALUE`.
+    /// Returns whether `word` is an option with this name, alone or as `--long=VALUE`.
     fn is_word(self, word: &str) -> bool {
         match self {
             Name::Letter(letter) => is_short(letter, word),
@@ -171,7 +177,7 @@ impl Name {
         }
     }
 
-    /// An argument that is called so.
+    /// Sets this name on an argument of the parser.
     fn given_to<'a>(self, arg: Arg<'a>) -> Arg<'a> {
         match self {
             Name::Letter(letter) => arg.short(letter),
@@ -182,7 +188,7 @@ impl Name {
     }
 }
 
-/// Whether a word is `-` and a letter.
+/// Returns whether `word` is `-` and `letter`.
 fn is_short(letter: char, word: &str) -> bool {
     let mut characters = word.chars();
     characters.next() == Some('-')
@@ -190,7 +196,7 @@ fn is_short(letter: char, word: &str) -> bool {
         && characters.next().is_none()
 }
 
-/// Whether a word is `--`, a long name, and perhaps `=` and a value.
+/// Returns whether `word` is `--` and `long`, perhaps followed by `=` and a value.
 fn is_long(long: &str, word: &str) -> bool {
     let Some(given) = word.strip_prefix("--") else {
         return false;

@@ -1,15 +1,16 @@
-//! The words of a command line, and what a command finds in them.
+//! The words of a command line, and their values as the parser finds them.
 
-use crate::about::answer_explain;
-use crate::one_line::WORDS_FEED;
+use crate::about::print_explanation;
+use crate::one_line::FEED_PLACEHOLDER;
 use crate::options_fault::OptionsFault;
+use crate::texts::Texts;
 use clap::{ArgMatches, Command};
 use std::alloc::{AllocError, Global};
 use std::string::String;
 use std::{env, io};
 
-/// The words that follow the program's name.
-pub fn words_given(rt: &HostRuntime, program: &str) -> Result<Vec<String>, OptionsFault> {
+/// Returns the words that follow the program's name.
+pub fn arguments(rt: &HostRuntime, program: &str) -> Result<Vec<String>, OptionsFault> {
     words(rt).map_err(|error| OptionsFault::of_words(rt.alloc(), program, &error))
 }
 
@@ -21,17 +22,22 @@ fn words(rt: &HostRuntime) -> io::Result<Vec<String>> {
     Ok(words)
 }
 
-/// Words with another character in place of each line feed. Told by `OptionsFault::in_lines` they stand in the lines of the parser's text.
-pub(crate) fn without_feeds(alloc: Global, words: &[String]) -> Result<Vec<String>, AllocError> {
-    let mut told = Vec::with_capacity(alloc, words.len())?;
+/// Returns the words with a placeholder for each line feed. `OptionsFault::in_lines` prints the
+/// placeholder as `\n`.
+pub(crate) fn with_feed_placeholders(
+    alloc: Global,
+    words: &[String],
+) -> Result<Vec<String>, AllocError> {
+    let mut reported = Vec::with_capacity(alloc, words.len())?;
     for word in words {
-        told.push(word.replace(alloc, '\n', WORDS_FEED)?)?;
+        reported.push(word.replace(alloc, '\n', FEED_PLACEHOLDER)?)?;
     }
-    Ok(told)
+    Ok(reported)
 }
 
-/// The first word that begins with `-` behind one of these options, each of which takes the name of a file.
-pub(crate) fn file_behind<'a>(words: &'a [String], options: &[&str]) -> Option<&'a str> {
+/// Returns the first word that begins with `-` and follows one of `options`, each of which takes a
+/// file name.
+pub(crate) fn file_after<'a>(words: &'a [String], options: &[&str]) -> Option<&'a str> {
     let mut is_next = false;
     for word in words {
         if is_next && word.starts_with('-') {
@@ -42,7 +48,8 @@ pub(crate) fn file_behind<'a>(words: &'a [String], options: &[&str]) -> Option<&
     None
 }
 
-/// The first word before `--` that begins with `-` and has the `.` of a file's name, and no `=` of an option's value.
+/// Returns the first word before `--` that begins with `-`, contains a `.` as file names do, and
+/// contains no `=`.
 pub(crate) fn file_among(words: &[String]) -> Option<&str> {
     for word in words {
         let word = word.as_str();
@@ -56,32 +63,35 @@ pub(crate) fn file_among(words: &[String]) -> Option<&str> {
     None
 }
 
-/// What a program's command finds in words. Where they have `--explain`, that is answered.
+/// Parses the words with the program's command. If they contain `--explain`, the explanation is
+/// returned as `Help`.
 pub(crate) fn found<'a>(
     alloc: Global,
     program: &str,
     command: Command<'a>,
     words: &'a [String],
+    texts: &Texts<'_>,
 ) -> Result<ArgMatches<'a>, OptionsFault> {
     let matches = parsed(alloc, program, command, words)?;
-    answer_explain(alloc, program, &matches)?;
+    print_explanation(alloc, program, &matches, texts)?;
     Ok(matches)
 }
 
-/// Refuses words without feeds that the parser refuses. What it says of them stands in the lines of its text.
+/// Returns the parser's error for words without line feeds, if it rejects them. The words that it
+/// quotes are escaped.
 pub(crate) fn check<'a>(
     alloc: Global,
     program: &str,
     command: Command<'a>,
-    told: &'a [String],
+    reported: &'a [String],
 ) -> Result<(), OptionsFault> {
-    match parsed(alloc, program, command, told) {
+    match parsed(alloc, program, command, reported) {
         Ok(_) => Ok(()),
         Err(fault) => Err(fault.in_lines(alloc)),
     }
 }
 
-/// What the parser finds in words.
+/// Parses the words.
 fn parsed<'a>(
     alloc: Global,
     program: &str,
@@ -93,7 +103,7 @@ fn parsed<'a>(
         .map_err(|error| OptionsFault::of_parser(alloc, program, &error))
 }
 
-/// The value of an option, where it was given.
+/// Returns the value of an option, if it was given.
 pub(crate) fn text_of(
     alloc: Global,
     matches: &ArgMatches<'_>,
@@ -105,7 +115,7 @@ pub(crate) fn text_of(
     }
 }
 
-/// The value of an option that has to be given.
+/// Returns the value of a required option.
 pub(crate) fn needed_text(
     alloc: Global,
     program: &str,
@@ -114,11 +124,11 @@ pub(crate) fn needed_text(
 ) -> Result<String, OptionsFault> {
     match text_of(alloc, matches, id)? {
         Some(text) => Ok(text),
-        None => Err(OptionsFault::wrong(alloc, program, "an option is missing")),
+        None => Err(OptionsFault::wrong(alloc, program, "a required option is missing")),
     }
 }
 
-/// The values of an option or of words, in their order.
+/// Returns the values of an option or of positional words, in their order.
 pub(crate) fn texts_of(
     alloc: Global,
     matches: &ArgMatches<'_>,

@@ -1,4 +1,4 @@
--- The surfaces of accepted lines are text, and so are those of a lexicon.
+-- The surfaces of valid lines are UTF-8, and so are those of a lexicon.
 use Rattle.std.proofs.Common.{◌≡◌, ℕ, ◌+◌, Bool, true, false, cond, List, [], ◌∷◌, ◌++◌, length, map, inl, inr, sym, subst}
 use Rattle.std.specs.Prelude.{ℤ, IsUtf8, Option, Some, None, Result, Ok, ◌==◌, nat_le, option_and_then, option_map}
 use Rattle.std.specs.List.{AllByRecursion, enumerate_from}
@@ -9,7 +9,7 @@ use Rattle.mj_model.specs.declared.matrix_sizes.MatrixSizes.{MatrixSizes}
 use Rattle.mj_model.specs.declared.source_fault.SourceFault.{SourceFault}
 use Rattle.mj_model.specs.declared.source_fault.SourceKind.TheVariants.{SurfaceTooLong}
 use Rattle.mj_model.specs.Dictionary.{AreLexicons, IsLexiconOf, lexeme_of, next_file}
-use Rattle.mj_model.specs.Lexicon.{Row, Parts, Outcome, Blank, Skipped, Refused, Accepted, IsOutcome, AreOutcomes, IsLexicon, Reading, accept_short, accepted_rows, first_refused, lexicon_outcome, reading_unless, row_from}
+use Rattle.mj_model.specs.Lexicon.{Row, Parts, Outcome, Blank, Skipped, Refused, Accepted, IsOutcome, AreOutcomes, IsLexicon, Reading, accept_short, accepted_rows, first_rejected, lexicon_outcome, reading_unless, row_from}
 use Rattle.mj_model.specs.Lines.{numbered_lines}
 use Rattle.mj_model.specs.Numbers.{context_id, cost}
 use Rattle.mj_model.specs.Tables.{HasText, Lexeme}
@@ -64,15 +64,15 @@ of_outcomes (line ∷ lines) (Skipped ∷ os) h = of_outcomes lines os h.1
 of_outcomes (line ∷ lines) (Refused kind ∷ os) h = of_outcomes lines os h.1
 of_outcomes (line ∷ lines) (Accepted row ∷ os) h = (of_outcome line.0 line.1 (Accepted row) h.0, of_outcomes lines os h.1)
 
-of_reading : (refused : Option SourceFault) (os : List Outcome) (lines : Reading) → ◌≡◌ {A = Result Reading SourceFault} (Ok lines) (reading_unless refused os)
+of_reading : (rejected : Option SourceFault) (os : List Outcome) (lines : Reading) → ◌≡◌ {A = Result Reading SourceFault} (Ok lines) (reading_unless rejected os)
     → AllByRecursion IsTextRow (accepted_rows os) → AllByRecursion IsTextRow lines.rows
 of_reading None os lines h all = subst (λ (r : Reading). AllByRecursion IsTextRow r.rows) (sym (same_read h)) all
 of_reading (Some fault) os lines h all = absurd (cc)
 
 of_lexicon : (file held : ℕ) (bytes : List ℕ) (lines : Reading) → IsLexicon file held bytes (Ok lines) → AllByRecursion IsTextRow lines.rows
-of_lexicon file held bytes lines h = of_reading (first_refused file 1 held h.0) h.0 lines h.2 (of_outcomes (numbered_lines bytes) h.0 h.1)
+of_lexicon file held bytes lines h = of_reading (first_rejected file 1 held h.0) h.0 lines h.2 (of_outcomes (numbered_lines bytes) h.0 h.1)
 
--- the rows of lexicons behind others
+-- the rows of lexicons after others
 of_lexicons : (sizes : MatrixSizes) (file : ℕ) (before : List Row) (lexicons : List (List ℕ)) (rows : List Row) → AllByRecursion IsTextRow before
     → AreLexicons sizes file before lexicons (Ok rows) → AllByRecursion IsTextRow rows
 of_lexicons sizes file before [] rows all h = subst (AllByRecursion IsTextRow) (sym (same_read h)) all
@@ -88,7 +88,7 @@ numbered_texts : (n : ℕ) (rows : List Row) → AllByRecursion IsTextRow rows �
 numbered_texts n [] all = tt
 numbered_texts n (row ∷ rows) all = (all.0, numbered_texts (n + 1) rows all.1)
 
--- the surfaces of accepted lexicons are text
+-- the surfaces of valid lexicons are UTF-8
 pub lexicon_is_text : (sizes : MatrixSizes) (lexicons : List (List ℕ)) (rows : List Row) (lexicon : List Lexeme) → AreLexicons sizes 3 [] lexicons (Ok rows) → IsLexiconOf rows lexicon
     → AllByRecursion HasText lexicon
 lexicon_is_text sizes lexicons rows lexicon are is =

@@ -1,4 +1,4 @@
--- The image of what sources say is their compilation.
+-- The image of parsed sources is their compilation.
 use Rattle.std.proofs.Common.{◌≡◌, ℕ, ◌≤◌, ◌<◌, List, [], ◌∷◌, ◌+◌, ◌++◌, length, map, refl, sym, ap, ◌∙◌, subst, arith, inl, inr}
 use Rattle.std.specs.Prelude.{flat_map}
 use Rattle.std.specs.List.{enumerate_from, range_with_len}
@@ -10,28 +10,28 @@ use Rattle.mj_model.specs.declared.sources.Sources.{Sources}
 use Rattle.mj_model.specs.CharDef.{NamedCategory}
 use Rattle.dict_compile.specs.Compilation.{IsCompilation, IsCompilationCause}
 use Rattle.mj_model.specs.Lexicon.{SkipLines, Row}
-use Rattle.image_bytes.specs.ImageBounds.{feature_bytes, feature_bytes_end, lexicon_tokens, system_tokens}
+use Rattle.image_format.specs.ImageBounds.{feature_bytes, feature_bytes_end, lexicon_tokens, system_tokens}
 use Rattle.mj_model.specs.Dictionary.{IsInOrder, lexeme_of}
-use Rattle.image_bytes.specs.ImageMeaning.{image_lexicon, image_tables}
-use Rattle.mj_model.specs.SourceTables.{HaveTables, IsSourcesFault, SayTheSame, lexicon_bytes, system_tables}
+use Rattle.image_format.specs.ImageMeaning.{image_lexicon, image_tables}
+use Rattle.mj_model.specs.SourceTables.{HaveTables, IsSourcesFault, HaveSameMeaning, lexicon_bytes, system_tables}
 use Rattle.mj_model.specs.Tables.{Tables, Lexeme, Token}
-use Rattle.image_bytes.specs.ImageBytes.{section}
+use Rattle.image_format.specs.ImageBytes.{section}
 use Rattle.image_writer.specs.Compact.{AreCellsFor, features_once}
 use Rattle.mj_model.specs.UnkDef.{unknown_tokens}
 use Rattle.dict_compile.specs.Parts.{AreParts, FitTogether}
 use Rattle.dict_compile.specs.declared.parts.SourceParts.{SourceParts}
 use Rattle.dict_compile.proofs.ConnectionLemmas.{costs_are}
-use Rattle.mj_model.specs.FirstFault.{IsRefusal}
+use Rattle.mj_model.specs.FirstFault.{IsMemoryOr}
 use Rattle.dict_compile.specs.Faults.{fault_of_image}
 use Rattle.image_writer.specs.Entries.{all_rows, lexemes_of, tokens_of}
 use Rattle.image_writer.specs.SystemImages.{tables_with}
-use Rattle.dict_compile.specs.Images.{HaveTooLarge, IsImageOf, IsImageRefusal, MayLackCells}
+use Rattle.dict_compile.specs.Images.{HaveTooLarge, IsImageOf, IsImageError, MayLackCells}
 use Rattle.dict_compile.specs.declared.compiled.Compiled.{Compiled}
 use Rattle.dict_compile.proofs.TokenLemmas.{all_tokens_are}
 
--- ---- tables that say the same
+-- ---- equal tables
 
-pub same_trans : (t u v : Tables) → SayTheSame t u → SayTheSame u v → SayTheSame t v
+pub same_trans : (t u v : Tables) → HaveSameMeaning t u → HaveSameMeaning u v → HaveSameMeaning t v
 same_trans t u v h k = record {
   kind = h.kind ∙ k.kind;
   sizes = h.sizes ∙ k.sizes;
@@ -43,7 +43,7 @@ same_trans t u v h k = record {
 }
 
 -- they have the same tokens
-pub same_tokens : (t u : Tables) → SayTheSame t u → system_tokens t ≡ system_tokens u
+pub same_tokens : (t u : Tables) → HaveSameMeaning t u → system_tokens t ≡ system_tokens u
 same_tokens t u h = λ i. lexicon_tokens (h.lexicon i) ++ flat_map (h.unknown i) (range_with_len 0 (length (h.categories i)))
 
 -- ---- the tables of parts
@@ -56,7 +56,7 @@ module _ (s : Sources) (parts : SourceParts) (h : AreParts s parts) (fit : FitTo
   abbrev tables : Tables
   tables = tables_with parts.matrix parts.chars parts.unknown ordered
 
-  say_the_same : SayTheSame tables (system_tables h.connection h.chars parts.unknown (lexemes_of ordered))
+  say_the_same : HaveSameMeaning tables (system_tables h.connection h.chars parts.unknown (lexemes_of ordered))
   say_the_same = record {
     kind = refl;
     sizes = h.matrix.sizes;
@@ -67,8 +67,8 @@ module _ (s : Sources) (parts : SourceParts) (h : AreParts s parts) (fit : FitTo
     lexicon = refl;
   }
 
-  -- tables that say the same as the parts are the sources'
-  pub have_tables : (t : Tables) → SayTheSame t tables → HaveTables s t
+  -- tables that agree with the parts are those of the sources
+  pub have_tables : (t : Tables) → HaveSameMeaning t tables → HaveTables s t
   have_tables t same = record {
     connection = h.connection;
     chars = h.chars;
@@ -83,7 +83,7 @@ module _ (s : Sources) (parts : SourceParts) (h : AreParts s parts) (fit : FitTo
     tables = same_trans t tables (system_tables h.connection h.chars parts.unknown (lexemes_of ordered)) same say_the_same;
   }
 
-  pub tokens_are : (t : Tables) → SayTheSame t tables → system_tokens t ≡ tokens_of (all_rows ordered parts.unknown)
+  pub tokens_are : (t : Tables) → HaveSameMeaning t tables → system_tokens t ≡ tokens_of (all_rows ordered parts.unknown)
   tokens_are t same =
       let count : length (map (λ (named : NamedCategory). named.category) parts.chars.categories) ≡ length parts.unknown =
       length-map parts.chars.categories (λ (named : NamedCategory). named.category) ∙ sym fit.categories in
@@ -91,7 +91,7 @@ module _ (s : Sources) (parts : SourceParts) (h : AreParts s parts) (fit : FitTo
       ∙ ap (λ n. lexicon_tokens (lexemes_of ordered) ++ flat_map (unknown_tokens (length ordered) parts.unknown) (range_with_len 0 n)) count
       ∙ all_tokens_are ordered parts.unknown
 
-same_self : (t : Tables) → SayTheSame t t
+same_self : (t : Tables) → HaveSameMeaning t t
 same_self t = record { kind = refl; sizes = refl; connection = refl; categories = refl; info = λ code within. refl; unknown = refl; lexicon = refl }
 
 -- ---- the compilation
@@ -119,7 +119,7 @@ is_compilation s parts c h fit is = record {
   ranges = is.image.ranges;
 }
 
--- ---- the refusals
+-- ---- the errors
 
 too_large : (s : Sources) (parts : SourceParts) (fault : SourceFault) → AreParts s parts → FitTogether parts → HaveTooLarge parts → fault ≡ fault_of_image FeaturesTooLarge → IsCompilationCause s fault
 too_large s parts fault h fit large is =
@@ -135,11 +135,11 @@ may_be_full s parts fault h fit full is =
     let t = tables_with parts.matrix parts.chars parts.unknown full.0 in
     inr (t, have_tables s parts h fit full.0 full.1 t (same_self t), (full.2, is))
 
-pub refusal : (s : Sources) (parts : SourceParts) (fault : SourceFault) → AreParts s parts → FitTogether parts → IsImageRefusal parts fault → IsRefusal fault (IsCompilationCause s fault)
+pub refusal : (s : Sources) (parts : SourceParts) (fault : SourceFault) → AreParts s parts → FitTogether parts → IsImageError parts fault → IsMemoryOr fault (IsCompilationCause s fault)
 refusal s parts fault h fit (inl memory) = inl memory
 refusal s parts fault h fit (inr (inl large)) = inr (too_large s parts fault h fit large.0 large.1)
 refusal s parts fault h fit (inr (inr full)) = inr (may_be_full s parts fault h fit full.0 full.1)
 
-pub source_refused : (s : Sources) (fault : SourceFault) → IsRefusal fault (IsSourcesFault s fault) → IsRefusal fault (IsCompilationCause s fault)
+pub source_refused : (s : Sources) (fault : SourceFault) → IsMemoryOr fault (IsSourcesFault s fault) → IsMemoryOr fault (IsCompilationCause s fault)
 source_refused s fault (inl memory) = inl memory
 source_refused s fault (inr h) = inr (inl (inl h))

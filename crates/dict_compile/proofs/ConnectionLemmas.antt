@@ -1,4 +1,5 @@
--- The costs of a connection table are those that the rows of its source list, for every pair: one outside the sizes stands in no row.
+-- The costs of a connection table are those that the rows of its source list, for every pair. No
+-- row has a pair outside the sizes.
 use Rattle.std.proofs.Common.{◌≡◌, ℕ, Bool, true, false, cond, ◌&&◌, List, [], ◌∷◌, reverse, refl, sym, ap, ◌∙◌, subst}
 use mathlib.Core.List.{reverse_aux}
 use Rattle.std.specs.Prelude.{pos, Option, Some, None, Result, Ok, Err, nat_le, find, filter, not, ◌==◌, ◌*◌}

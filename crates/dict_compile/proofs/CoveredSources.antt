@@ -1,5 +1,5 @@
--- Accepted sources have words for every text: the surfaces of accepted lines are text, entries are numbered one by one, and the first
--- category of each code point has a row of `unk.def`.
+-- Accepted sources have words for every text: surfaces are UTF-8, entries are numbered
+-- consecutively, and the first category of each code point has a row of `unk.def`.
 use Rattle.std.proofs.Common.{◌≡◌, ℕ, ◌+◌, ◌<◌, ◌≤◌, List, [], ◌∷◌, length, map, take, inl, inr, sym, ap, ◌∙◌, subst, arith}
 use Rattle.std.specs.Prelude.{Option, Some, None, Result, Ok, Err, slice_index_or}
 use Rattle.std.specs.List.{AllByRecursion, AllZip, enumerate_from, sum_by}
@@ -14,44 +14,44 @@ use Rattle.mj_model.specs.declared.sources.Sources.{Sources}
 use Rattle.mj_model.specs.CharDef.{NamedCategory, char_info, code_point_max}
 use Rattle.mj_model.specs.Dictionary.{IsLexiconOf, first_outside, lexeme_of}
 use Rattle.mj_model.specs.Lexicon.{Reading, ReadsAs, Row}
-use Rattle.mj_model.specs.Lists.{StandsIn}
+use Rattle.mj_model.specs.Lists.{IsMember}
 use Rattle.mj_model.specs.SourceTables.{HaveTables, lexicon_bytes}
-use Rattle.mj_model.specs.Tables.{HasApartTokens, HasText, Lexeme, Tables, Token, lexicons_of}
-use Rattle.mj_model.specs.UnkDef.{IsUnkDef, rows_named, rows_or, token_of, unk_outcome, unknown_from, unknown_tokens, unknown_within, unless_outside}
+use Rattle.mj_model.specs.Tables.{HasDistinctTokens, HasText, Lexeme, Tables, Token, lexicons_of}
+use Rattle.mj_model.specs.UnkDef.{IsUnkDef, rows_named, rows_or, token_of, unk_outcome, unknown_from, unknown_tokens, unknown_within, check_outside}
 use Rattle.char_def.proofs.AcceptedChars.{infos_fit}
 use Rattle.char_def.proofs.AcceptedUnk.{lists_formed}
 use Rattle.char_def.proofs.UnkFaults.{read_from}
 use Rattle.image_writer.proofs.RowLemmas.{tokens_at}
-use Rattle.paths.proofs.CoveredTexts.{is_covered}
+use Rattle.mj_model.proofs.CoveredTexts.{is_covered}
 use Rattle.dict_compile.specs.Compilation.{HaveUserTables}
 use Rattle.dict_compile.specs.CoveredTexts.{SourcesCoverAll, SourcesCoverTexts, SourcesHaveWords}
 use Rattle.dict_compile.proofs.AcceptedTexts.{lexicon_is_text}
 
--- ---- entries are numbered one by one
+-- ---- entries are numbered consecutively
 
 abbrev number_of : Token → ℕ
 number_of t = t.number
 
-numbers_from : (n : ℕ) (rows : List Row) (number : ℕ) → StandsIn (map number_of (map token_of (enumerate_from n rows))) number → n ≤ number
+numbers_from : (n : ℕ) (rows : List Row) (number : ℕ) → IsMember (map number_of (map token_of (enumerate_from n rows))) number → n ≤ number
 numbers_from n [] number h = absurd h
 numbers_from n (row ∷ rows) number (inl same) = omega (arith, same)
 numbers_from n (row ∷ rows) number (inr h) = let low = numbers_from (n + 1) rows number h in omega (arith, low)
 
-numbered_apart : (n : ℕ) (rows : List Row) → HasApartTokens (map token_of (enumerate_from n rows))
+numbered_apart : (n : ℕ) (rows : List Row) → HasDistinctTokens (map token_of (enumerate_from n rows))
 numbered_apart n [] = tt
 numbered_apart n (row ∷ rows) = (λ h. let low = numbers_from (n + 1) rows n h in omega (arith, low), numbered_apart (n + 1) rows)
 
 abbrev AreApartEntries : List Lexeme → Type 0
-AreApartEntries lexicon = HasApartTokens (map (λ e. e.token) lexicon)
+AreApartEntries lexicon = HasDistinctTokens (map (λ e. e.token) lexicon)
 
 lexicon_apart : (rows : List Row) (lexicon : List Lexeme) → IsLexiconOf rows lexicon → AreApartEntries lexicon
 lexicon_apart rows lexicon is =
     subst AreApartEntries (sym is.2)
-    (subst HasApartTokens (sym (map-map (λ (e : Lexeme). e.token) lexeme_of (enumerate_from 0 is.0))) (numbered_apart 0 is.0))
+    (subst HasDistinctTokens (sym (map-map (λ (e : Lexeme). e.token) lexeme_of (enumerate_from 0 is.0))) (numbered_apart 0 is.0))
 
-unknown_apart : (n : ℕ) (unknown : List (List Row)) (i : ℕ) → HasApartTokens (unknown_tokens n unknown i)
+unknown_apart : (n : ℕ) (unknown : List (List Row)) (i : ℕ) → HasDistinctTokens (unknown_tokens n unknown i)
 unknown_apart n unknown i =
-    subst HasApartTokens (sym (tokens_at n unknown i)) (numbered_apart (n + sum_by length (take i unknown)) (slice_index_or unknown i []))
+    subst HasDistinctTokens (sym (tokens_at n unknown i)) (numbered_apart (n + sum_by length (take i unknown)) (slice_index_or unknown i []))
 
 -- ---- each category has a row
 
@@ -73,7 +73,7 @@ rows_by : (fault : Option SourceFault) (found unknown : List (List Row)) → ◌
 rows_by None found unknown h = h
 rows_by (Some fault) found unknown h = absurd (cc)
 
-unless_by : (sizes : MatrixSizes) (rows : List Row) (found : Result (List (List Row)) SourceFault) (unknown : List (List Row)) → Ok unknown ≡ unless_outside sizes rows found → Ok unknown ≡ found
+unless_by : (sizes : MatrixSizes) (rows : List Row) (found : Result (List (List Row)) SourceFault) (unknown : List (List Row)) → Ok unknown ≡ check_outside sizes rows found → Ok unknown ≡ found
 unless_by sizes rows (Err fault) unknown h = h
 unless_by sizes rows (Ok found) unknown h = rows_by (first_outside 2 sizes rows) found unknown h
 
@@ -97,8 +97,8 @@ module _ (s : Sources) (t : Tables) (h : HaveTables s t) where
   system_apart : AreApartEntries t.lexicon
   system_apart = subst AreApartEntries (sym h.tables.lexicon) (lexicon_apart h.rows h.lexicon h.is_lexicon)
 
-  categories_apart : (i : ℕ) → HasApartTokens (t.unknown i)
-  categories_apart i = subst (λ (entries : ℕ → List Token). HasApartTokens (entries i)) (sym h.tables.unknown) (unknown_apart (length h.lexicon) h.unknown i)
+  categories_apart : (i : ℕ) → HasDistinctTokens (t.unknown i)
+  categories_apart i = subst (λ (entries : ℕ → List Token). HasDistinctTokens (entries i)) (sym h.tables.unknown) (unknown_apart (length h.lexicon) h.unknown i)
 
   system_covers : (c : ℕ) → c ≤ code_point_max → 0 < length (t.unknown (t.info c).head)
   system_covers c within =
@@ -110,7 +110,7 @@ module _ (s : Sources) (t : Tables) (h : HaveTables s t) where
       subst (λ (entries : ℕ → List Token). 0 < length (entries (t.info c).head)) (sym h.tables.unknown)
       (subst (λ (i : CharInfo). 0 < length (unknown_tokens (length h.lexicon) h.unknown i.head)) (sym (h.tables.info c within)) some)
 
--- ---- the tables of users
+-- ---- the tables of user dictionaries
 
 users_text : (sizes : MatrixSizes) (users : List (List (List ℕ))) (ts : List Tables) → AllZip (HaveUserTables sizes) users ts → AllByRecursion (AllByRecursion HasText) (lexicons_of ts)
 users_text sizes [] [] h = tt

@@ -1,23 +1,23 @@
--- Sources compile, or have one first fault.
+-- Sources compile, or have exactly one first error.
 use Rattle.std.proofs.Common.{◌≡◌, ℕ, ◌<◌, ◌≤◌, List, [], sym, ap, ◌∙◌, subst, arith, inl, inr}
 use Rattle.std.specs.Prelude.{Result, Ok, Err, IfOk, IfErr}
 use Rattle.mj_model.specs.declared.source_fault.SourceFault.{SourceFault}
 use Rattle.mj_model.specs.declared.sources.Sources.{Sources}
 use Rattle.mj_model.specs.CharDef.{CharSource}
 use Rattle.dict_compile.specs.Compilation.{IsCompilation, IsCompilationCause, IsCompilationFault}
-use Rattle.image_bytes.specs.ImageBounds.{feature_bytes, feature_bytes_end, system_tokens}
+use Rattle.image_format.specs.ImageBounds.{feature_bytes, feature_bytes_end, system_tokens}
 use Rattle.mj_model.specs.Connection.{Connection}
 use Rattle.mj_model.specs.Dictionary.{IsLexiconOf}
-use Rattle.mj_model.specs.FirstFault.{IsRefusal}
-use Rattle.image_bytes.specs.ImageMeaning.{image_tables}
+use Rattle.mj_model.specs.FirstFault.{IsMemoryOr}
+use Rattle.image_format.specs.ImageMeaning.{image_tables}
 use Rattle.mj_model.specs.Lexicon.{Row}
-use Rattle.mj_model.specs.SourceTables.{HaveTables, SayOneThing, SayTheSame, lexicon_bytes, system_tables}
+use Rattle.mj_model.specs.SourceTables.{HaveTables, HaveOneMeaning, HaveSameMeaning, lexicon_bytes, system_tables}
 use Rattle.mj_model.specs.Tables.{Tables, Lexeme}
 use Rattle.mj_model.proofs.UnkReading.{unk_is_one}
 use Rattle.dict_compile.specs.declared.compiled.Compiled.{Compiled}
 use Rattle.dict_compile.specs.declared.parts.SourceParts.{SourceParts}
-use Rattle.dict_compile.specs.Answers.{IsRefusedFor, IsToldFor}
-use Rattle.dict_compile.specs.Images.{IsImageOf, IsImageRefusal}
+use Rattle.dict_compile.specs.Results.{IsRejectedFor, IsReportedFor}
+use Rattle.dict_compile.specs.Images.{IsImageOf, IsImageError}
 use Rattle.dict_compile.specs.Parts.{AreParts, FitTogether}
 use Rattle.dict_compile.proofs.CompilationLemmas.{is_compilation, refusal, same_tokens, same_trans}
 use Rattle.dict_compile.proofs.OrderLemmas.{one_lexicon}
@@ -25,7 +25,7 @@ use Rattle.dict_compile.proofs.SourceFaults.{fault_is_one, lexicons_one, no_tabl
 
 -- ---- one record of tables
 
-same_sym : (t u : Tables) → SayTheSame t u → SayTheSame u t
+same_sym : (t u : Tables) → HaveSameMeaning t u → HaveSameMeaning u t
 same_sym t u h = record {
   kind = sym h.kind;
   sizes = sym h.sizes;
@@ -39,8 +39,8 @@ same_sym t u h = record {
 equal_parts : (c d : Connection) (a b : CharSource) (u v : List (List Row)) (x y : List Lexeme) → c ≡ d → a ≡ b → u ≡ v → x ≡ y → system_tables c a u x ≡ system_tables d b v y
 equal_parts c d a b u v x y e f g h = λ i. system_tables (e i) (f i) (g i) (h i)
 
--- two records of tables that the sources have say the same
-pub tables_are_one : SayOneThing
+-- two records of tables of the same sources agree
+pub tables_are_one : HaveOneMeaning
 tables_are_one s t u h k =
     let c : k.connection ≡ h.connection = one_value _ k.is_connection h.is_connection in
     let a : k.chars ≡ h.chars = one_value _ k.are_chars h.are_chars in
@@ -52,12 +52,12 @@ tables_are_one s t u h k =
     let l : k.lexicon ≡ h.lexicon = one_lexicon h.rows k.lexicon h.lexicon (subst (λ (rows : List Row). IsLexiconOf rows k.lexicon) r k.is_lexicon) h.is_lexicon in
     same_trans t (system_tables h.connection h.chars h.unknown h.lexicon) u h.tables
     (same_sym u (system_tables h.connection h.chars h.unknown h.lexicon)
-    (subst (SayTheSame u) (equal_parts k.connection h.connection k.chars h.chars k.unknown h.unknown k.lexicon h.lexicon c a n l) k.tables))
+    (subst (HaveSameMeaning u) (equal_parts k.connection h.connection k.chars h.chars k.unknown h.unknown k.lexicon h.lexicon c a n l) k.tables))
 
--- ---- the first fault
+-- ---- the first error
 
--- what a refusal tells of sources at fault
-pub told_for : (s : Sources) (fault told : SourceFault) → IsCompilationFault s fault → IsRefusal told (IsCompilationCause s told) → IsToldFor fault told
+-- the error that is reported for invalid sources
+pub told_for : (s : Sources) (fault told : SourceFault) → IsCompilationFault s fault → IsMemoryOr told (IsCompilationCause s told) → IsReportedFor fault told
 told_for s fault told h (inl memory) = inr (inl memory)
 told_for s fault told (inl h) (inr (inl (inl k))) = inl (fault_is_one s told fault k h)
 told_for s fault told (inl h) (inr (inl (inr k))) = absurd (no_tables s fault k.0 h k.1)
@@ -68,18 +68,18 @@ told_for s fault told h (inr (inr k)) = inr (inr (ap (λ (f : SourceFault). f.ki
 pub few_or_large : (n m : ℕ) → n ≡ m → n < feature_bytes_end → feature_bytes_end ≤ m → ⊥
 few_or_large n m e few large = omega (arith, e, few, large)
 
--- sources at fault have no tables with few features
+-- invalid sources have no tables with small features
 pub not_both_of : (s : Sources) (t : Tables) (fault : SourceFault) → HaveTables s t → feature_bytes (system_tokens t) < feature_bytes_end → IsCompilationFault s fault → ⊥
 not_both_of s t fault have few (inl h) = no_tables s fault t h have
 not_both_of s t fault have few (inr h) =
     few_or_large (feature_bytes (system_tokens t)) (feature_bytes (system_tokens h.0)) (ap feature_bytes (same_tokens t h.0 (tables_are_one s t h.0 have h.1))) few h.2.0
 
--- sources at fault have no compilation
+-- invalid sources have no compilation
 pub not_compiled : (s : Sources) (image : List ℕ) (entries skipped : ℕ) (fault : SourceFault) → IsCompilation s image entries skipped → IsCompilationFault s fault → ⊥
 not_compiled s image entries skipped fault c h = not_both_of s (image_tables image) fault c.have c.compiled.few_features h
 
--- what is answered of sources at fault whose parts were read
+-- the result for invalid sources whose parts were read
 pub refused_for : (s : Sources) (parts : SourceParts) (fault : SourceFault) (r : Result Compiled SourceFault) → AreParts s parts → FitTogether parts → IsCompilationFault s fault
-    → IfOk r (IsImageOf parts) → IfErr r (IsImageRefusal parts) → IsRefusedFor fault r
-refused_for s parts fault (Ok c) h fit at image refused = not_compiled s c.image.items c.entries c.skipped fault (is_compilation s parts c h fit image) at
-refused_for s parts fault (Err told) h fit at image refused = told_for s fault told at (refusal s parts told h fit refused)
+    → IfOk r (IsImageOf parts) → IfErr r (IsImageError parts) → IsRejectedFor fault r
+refused_for s parts fault (Ok c) h fit at image rejected = not_compiled s c.image.items c.entries c.skipped fault (is_compilation s parts c h fit image) at
+refused_for s parts fault (Err told) h fit at image rejected = told_for s fault told at (refusal s parts told h fit rejected)

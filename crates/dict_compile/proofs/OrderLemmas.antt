@@ -1,7 +1,8 @@
--- There is one lexicon of a list of rows.
+-- A list of rows has exactly one lexicon.
 --
--- Two lists that are both in order, and whose entries of each surface stand in the same order, have the same first entry: neither
--- first entry is below the other, so both have one surface, and are the first of that surface. What is left is in order as well.
+-- If two lists are in order, and their entries of each surface are in the same order, their first
+-- entries are equal: neither is below the other, so both have one surface, and are the first of
+-- that surface. The remainders are in order as well.
 use Rattle.std.proofs.Common.{◌≡◌, suc, ◌+◌, Bool, true, false, not, cond, ◌&&◌, List, [], ◌∷◌, drop, get_or, map, refl, sym, ap, ◌∙◌, subst, arith}
 use Rattle.std.specs.Cmp.{IsStrictWeakOrder}
 use Rattle.std.specs.Cmp.Lexicographic.{slice_cmp}
@@ -22,12 +23,12 @@ module _ {X : Type 0} where
   left_by P x y left ys true here later is = subst P (ap (λ l. get_or l 0 y) is) here
   left_by P x y left ys false here later is = later is
 
-  -- what holds of all elements holds of the first one that a test leaves
+  -- a fact about all elements holds for the first one that a test keeps
   first_left : (P : X → Type 0) (test : X → Bool) (xs : List X) (y : X) (ys : List X) → AllByRecursion P xs → filter test xs ≡ y ∷ ys → P y
   first_left P test [] y ys all is = absurd (cc)
   first_left P test (x ∷ xs) y ys all is = left_by P x y (filter test xs) ys (test x) all.0 (first_left P test xs y ys all.1) is
 
-  -- what a test leaves of lists with the same first element
+  -- the elements that a test keeps of lists with equal first elements
   without_first : (x : X) (xs ys : List X) (b : Bool) → cond b (x ∷ xs) xs ≡ cond b (x ∷ ys) ys → xs ≡ ys
   without_first x xs ys true is = ap (drop 1) is
   without_first x xs ys false is = is
@@ -52,22 +53,22 @@ module _ {X : Type 0} where
         let f : k + 1 ≡ suc k = omega (arith) in
         ap (λ n. lt (get_or xs (k + 1) d) (get_or (x ∷ xs) n d)) (sym f) ∙ ap (λ n. lt (get_or (x ∷ xs) n d) (get_or (x ∷ xs) (k + 1) d)) (sym e) ∙ up (k + 1) d (omega (arith)) (omega (arith, less))
 
-    -- none that is found in a list in order is below its first one
+    -- no element of a list in order is below the first one
     none_below : (y z : X) (zs ys : List X) → IsSortedBy lt (z ∷ zs) → filter (ties lt y) (z ∷ zs) ≡ y ∷ ys → lt y z ≡ false
     none_below y z zs ys up is =
         first_left (λ w. lt w z ≡ false) (ties lt y) (z ∷ zs) y ys
         (recursion_from_All (λ w. lt w z ≡ false) (z ∷ zs) (λ k d less. sorted_far lt order (z ∷ zs) up 0 k d (omega (arith)) less)) is
 
-    abbrev AreAlike : List X → List X → Type 0
-    AreAlike ys zs = (x : X) → filter (ties lt x) ys ≡ filter (ties lt x) zs
+    abbrev AreInterchangeable : List X → List X → Type 0
+    AreInterchangeable ys zs = (x : X) → filter (ties lt x) ys ≡ filter (ties lt x) zs
 
-    same_first : (y z : X) (ys zs : List X) → IsSortedBy lt (y ∷ ys) → IsSortedBy lt (z ∷ zs) → AreAlike (y ∷ ys) (z ∷ zs) → y ≡ z
+    same_first : (y z : X) (ys zs : List X) → IsSortedBy lt (y ∷ ys) → IsSortedBy lt (z ∷ zs) → AreInterchangeable (y ∷ ys) (z ∷ zs) → y ≡ z
     same_first y z ys zs up upward alike =
         let one = none_below y z zs (filter (ties lt y) ys) upward (sym (alike y) ∙ kept y y ys (ties_itself y)) in
         let other = none_below z y ys (filter (ties lt z) zs) up (alike z ∙ kept z z zs (ties_itself z)) in
         ap (λ l. get_or l 0 y) (sym (kept y y ys (ties_itself y)) ∙ alike y ∙ kept y z zs (tie y z one other))
 
-    pub one_order : (ys zs : List X) → IsSortedBy lt ys → IsSortedBy lt zs → AreAlike ys zs → ys ≡ zs
+    pub one_order : (ys zs : List X) → IsSortedBy lt ys → IsSortedBy lt zs → AreInterchangeable ys zs → ys ≡ zs
     one_order [] [] up upward alike = refl
     one_order [] (z ∷ zs) up upward alike = let none = alike z ∙ kept z z zs (ties_itself z) in absurd (cc)
     one_order (y ∷ ys) [] up upward alike = let none = sym (alike y) ∙ kept y y ys (ties_itself y) in absurd (cc)

@@ -1,11 +1,11 @@
--- How many lines lexicons skip.
+-- The number of lines that lexicons skip.
 use Rattle.std.proofs.Common.{◌≡◌, ℕ, ◌+◌, ◌<◌, List, [], ◌∷◌, ◌++◌, length, map, take, get_or, Bor, refl, sym, ap, ◌∙◌, subst}
 use Rattle.std.proofs.lemmas.List.{take_more, map-append}
 use Rattle.std.specs.Prelude.{Option, Some, None, Result, Ok, Err, count_by}
 use Rattle.std.specs.List.{AllZip}
 use Rattle.std.proofs.lemmas.List.Sums.{sum_by_push}
 use Rattle.mj_model.specs.declared.source_fault.SourceFault.{SourceFault}
-use Rattle.mj_model.specs.Lexicon.{SkipLines, SkipsLines, IsLexicon, Outcome, Reading, first_refused, is_skipped, reading_unless}
+use Rattle.mj_model.specs.Lexicon.{SkipLines, SkipsLines, IsLexicon, Outcome, Reading, first_rejected, is_skipped, reading_unless}
 
 abbrev skipped_or : Result Reading SourceFault → ℕ
 skipped_or (Ok lines) = lines.skipped
@@ -15,9 +15,9 @@ counted : (fault : Option SourceFault) (outcomes : List Outcome) (lines : Readin
 counted None outcomes lines is = ap skipped_or is
 counted (Some fault) outcomes lines is = absurd (cc)
 
--- an accepted lexicon skips the lines that its reading counts
+-- a valid lexicon skips the lines that its reading counts
 pub skips_of : (file held : ℕ) (bytes : List ℕ) (lines : Reading) → IsLexicon file held bytes (Ok lines) → SkipsLines bytes lines.skipped
-skips_of file held bytes lines reads = (reads.0, reads.1, counted (first_refused file 1 held reads.0) reads.0 lines reads.2)
+skips_of file held bytes lines reads = (reads.0, reads.1, counted (first_rejected file 1 held reads.0) reads.0 lines reads.2)
 
 -- no lexicon skips no line
 pub skips_none : SkipLines [] 0

@@ -1,4 +1,4 @@
--- Sources have one first fault, or tables.
+-- Sources have exactly one first error, or tables.
 use Rattle.std.proofs.Common.{◌≡◌, ℕ, List, [], ◌∷◌, ◌++◌, length, sym, ap, ◌∙◌, subst, inl, inr}
 use Rattle.std.specs.Prelude.{Some, None, Result, Ok, Err}
 use Rattle.std.proofs.lemmas.Option.{same_Some}
@@ -15,7 +15,7 @@ use Rattle.mj_model.specs.UnkDef.{IsUnkWithin}
 use Rattle.mj_model.proofs.ReadingLemmas.{readings_are_one}
 use Rattle.mj_model.proofs.UnkReading.{unk_is_one}
 
--- ---- one answer of a reader
+-- ---- one result of a reader
 
 abbrev error_or : {T : Type 0} → SourceFault → Result T SourceFault → SourceFault
 error_or other (Ok x) = other
@@ -71,7 +71,7 @@ lexicons_one sizes file before (bytes ∷ more) r q (inr (inr h)) (inr (inr k)) 
     let same = same_read (same_reading file (length before) bytes (Ok h.0) (Ok k.0) h.1 k.1) in
     lexicons_one sizes (next_file file) (before ++ k.0.rows) more r q (subst (λ (lines : Reading). AreLexicons sizes (next_file file) (before ++ lines.rows) more r) same h.3) k.3
 
--- ---- the same connection costs and categories
+-- ---- equal connection costs and categories
 
 pub unk_along : (c d : Connection) (a b : CharSource) (bytes : List ℕ) (r : Result (List (List Row)) SourceFault) → c ≡ d → a ≡ b
     → IsUnkWithin c.sizes a.categories bytes r → IsUnkWithin d.sizes b.categories bytes r
@@ -81,7 +81,7 @@ unk_along c d a b bytes r e f h =
 pub rows_along : (c d : Connection) (lexicons : List (List ℕ)) (r : Result (List Row) SourceFault) → c ≡ d → AreLexicons c.sizes 3 [] lexicons r → AreLexicons d.sizes 3 [] lexicons r
 rows_along c d lexicons r e h = subst (λ (x : Connection). AreLexicons x.sizes 3 [] lexicons r) e h
 
--- ---- one first fault
+-- ---- one first error
 
 pub fault_is_one : (s : Sources) (f g : SourceFault) → IsSourcesFault s f → IsSourcesFault s g → f ≡ g
 fault_is_one s f g (inl h) (inl k) = one_error _ h k
@@ -105,7 +105,7 @@ fault_is_one s f g (inr (inr (inr h))) (inr (inr (inl k))) =
 fault_is_one s f g (inr (inr (inr h))) (inr (inr (inr k))) =
     same_error (lexicons_one h.0.sizes 3 [] (lexicon_bytes s) (Err f) (Err g) h.6 (rows_along k.0 h.0 (lexicon_bytes s) (Err g) (one_value _ k.3 h.3) k.6))
 
--- sources at fault have no tables
+-- invalid sources have no tables
 pub no_tables : (s : Sources) (fault : SourceFault) (t : Tables) → IsSourcesFault s fault → HaveTables s t → ⊥
 no_tables s fault t (inl h) k = not_both _ h k.is_connection
 no_tables s fault t (inr (inl h)) k = not_both _ h.2 k.are_chars

@@ -7,7 +7,7 @@ use Rattle.mj_model.specs.CharDef.{CharSource, NamedCategory, char_source}
 use Rattle.mj_model.specs.declared.matrix_sizes.MatrixSizes.{MatrixSizes}
 use Rattle.mj_model.specs.Connection.{Connection, connection_of}
 use Rattle.mj_model.specs.Dictionary.{AreLexicons}
-use Rattle.mj_model.specs.FirstFault.{IsRefusal}
+use Rattle.mj_model.specs.FirstFault.{IsMemoryOr}
 use Rattle.mj_model.specs.Lexicon.{Row}
 use Rattle.mj_model.specs.SourceTables.{IsSourcesFault, lexicon_bytes}
 use Rattle.mj_model.specs.UnkDef.{IsUnkWithin}
@@ -22,8 +22,8 @@ module _ (s : Sources) (m : CostTable) (sizes : MatrixSizes) (is_sizes : sizes �
   pub rows_read : (read : Result (List Row) SourceFault) → AreLexicons sizes 3 [] (lexicon_bytes s) read → AreLexicons table.0.sizes 3 [] (lexicon_bytes s) read
   rows_read read h = subst (λ sizes. AreLexicons sizes 3 [] (lexicon_bytes s) read) same_sizes h
 
-  -- char.def is at fault
-  pub chars_at_fault : (fault : SourceFault) → IsRefusal fault (char_source s.chars.now ≡ Err fault) → IsRefusal fault (IsSourcesFault s fault)
+  -- char.def is invalid
+  pub chars_at_fault : (fault : SourceFault) → IsMemoryOr fault (char_source s.chars.now ≡ Err fault) → IsMemoryOr fault (IsSourcesFault s fault)
   chars_at_fault fault (inl memory) = inl memory
   chars_at_fault fault (inr h) = inr (inr (inl (table.0, table.1, h)))
 
@@ -33,13 +33,13 @@ module _ (s : Sources) (m : CostTable) (sizes : MatrixSizes) (is_sizes : sizes �
         subst (λ (categories : List NamedCategory). IsUnkWithin table.0.sizes categories s.unk.now unknown) read.2.categories
         (subst (λ sizes. IsUnkWithin sizes chars.categories s.unk.now unknown) same_sizes h)
 
-    -- unk.def is at fault
-    pub unknown_at_fault : (fault : SourceFault) → IsRefusal fault (IsUnkWithin sizes chars.categories s.unk.now (Err fault)) → IsRefusal fault (IsSourcesFault s fault)
+    -- unk.def is invalid
+    pub unknown_at_fault : (fault : SourceFault) → IsMemoryOr fault (IsUnkWithin sizes chars.categories s.unk.now (Err fault)) → IsMemoryOr fault (IsSourcesFault s fault)
     unknown_at_fault fault (inl memory) = inl memory
     unknown_at_fault fault (inr h) = inr (inr (inr (inl (table.0, read.0, table.1, read.1, unknown_read (Err fault) h))))
 
     module _ (unknown : List (List Row)) (accepted : IsUnkWithin sizes chars.categories s.unk.now (Ok unknown)) where
-      -- a lexicon is at fault
-      pub lexicons_at_fault : (fault : SourceFault) → IsRefusal fault (AreLexicons sizes 3 [] (lexicon_bytes s) (Err fault)) → IsRefusal fault (IsSourcesFault s fault)
+      -- a lexicon is invalid
+      pub lexicons_at_fault : (fault : SourceFault) → IsMemoryOr fault (AreLexicons sizes 3 [] (lexicon_bytes s) (Err fault)) → IsMemoryOr fault (IsSourcesFault s fault)
       lexicons_at_fault fault (inl memory) = inl memory
       lexicons_at_fault fault (inr h) = inr (inr (inr (inr (table.0, read.0, unknown, table.1, read.1, unknown_read (Ok unknown) accepted, rows_read (Err fault) h))))

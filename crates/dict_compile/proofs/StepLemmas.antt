@@ -9,8 +9,8 @@ use Rattle.mj_model.specs.Dictionary.{AreLexicons}
 use Rattle.mj_model.specs.Lexicon.{Row}
 use Rattle.mj_model.specs.SourceTables.{lexicon_bytes}
 use Rattle.dict_compile.specs.declared.parts.SourceParts.{SourceParts}
-use Rattle.dict_compile.specs.declared.watch.Step.{Step}
-use Rattle.dict_compile.specs.declared.watch.Step.TheVariants.{LexiconRead, Sorted}
+use Rattle.dict_compile.specs.declared.watch.CompileStep.{CompileStep}
+use Rattle.dict_compile.specs.declared.watch.CompileStep.TheVariants.{LexiconRead, Sorted}
 use Rattle.dict_compile.specs.Parts.{AreParts}
 use Rattle.dict_compile.specs.Steps.{AreEntrySteps, AreLexiconSteps, AreReadingSteps, AreSteps, steps_before}
 
@@ -18,11 +18,11 @@ use Rattle.dict_compile.specs.Steps.{AreEntrySteps, AreLexiconSteps, AreReadingS
 pub steps_none : (sizes : MatrixSizes) → AreLexiconSteps sizes [] []
 steps_none sizes = record { one_each = refl; in_order = λ k step at. absurd (cc) }
 
--- one more lexicon was read, and with it there are these rows
-pub steps_push : (sizes : MatrixSizes) (before : List (List ℕ)) (bytes : List ℕ) (steps : List Step) (rows : List Row) → AreLexiconSteps sizes before steps
+-- one more lexicon was read, and these rows are the total
+pub steps_push : (sizes : MatrixSizes) (before : List (List ℕ)) (bytes : List ℕ) (steps : List CompileStep) (rows : List Row) → AreLexiconSteps sizes before steps
     → AreLexicons sizes 3 [] (before ++ bytes ∷ []) (Ok rows) → AreLexiconSteps sizes (before ++ bytes ∷ []) (steps ++ LexiconRead (length rows) ∷ [])
 steps_push sizes before bytes steps rows h read =
-    let new : Step = LexiconRead (length rows) in
+    let new : CompileStep = LexiconRead (length rows) in
     let long = length-append steps (new ∷ []) in
     let longer = length-append before (bytes ∷ []) in
     record {
@@ -39,15 +39,15 @@ steps_push sizes before bytes steps rows h read =
     }
 
 -- the entries of lexicons that were read are sorted
-pub steps_sorted : (sizes : MatrixSizes) (lexicons : List (List ℕ)) (reading : List Step) (rows : List Row) → AreLexiconSteps sizes lexicons reading
+pub steps_sorted : (sizes : MatrixSizes) (lexicons : List (List ℕ)) (reading : List CompileStep) (rows : List Row) → AreLexiconSteps sizes lexicons reading
     → AreLexicons sizes 3 [] lexicons (Ok rows) → AreEntrySteps sizes lexicons (reading ++ Sorted (length rows) ∷ [])
 steps_sorted sizes lexicons reading rows h read = record { reading = reading; are_reading = h; rows = rows; are_rows = read; all = refl }
 
--- so are those of sources that were read
-pub all_steps : (s : Sources) (parts : SourceParts) (steps : List Step) → AreParts s parts → AreReadingSteps (lexicon_bytes s) parts steps
+-- the entries of sources that were read are sorted
+pub all_steps : (s : Sources) (parts : SourceParts) (steps : List CompileStep) → AreParts s parts → AreReadingSteps (lexicon_bytes s) parts steps
     → AreSteps s (steps ++ Sorted (length parts.lexicon.rows) ∷ [])
 all_steps s parts steps are h =
-    let sorted : List Step = Sorted (length parts.lexicon.rows) ∷ [] in
+    let sorted : List CompileStep = Sorted (length parts.lexicon.rows) ∷ [] in
     let reading = subst (λ (sizes : MatrixSizes). AreLexiconSteps sizes (lexicon_bytes s) h.reading) are.matrix.sizes h.are_reading in
     record {
       connection = are.connection;
@@ -57,14 +57,14 @@ all_steps s parts steps are h =
       entries = h.reading ++ sorted;
       are_entries = steps_sorted are.connection.sizes (lexicon_bytes s) h.reading parts.lexicon.rows reading are.rows;
       all =
-          ap (λ (all : List Step). all ++ sorted) h.all
+          ap (λ (all : List CompileStep). all ++ sorted) h.all
           ∙ append_assoc (steps_before parts.matrix.sizes (length parts.chars.categories)) h.reading sorted
           ∙ ap (λ (sizes : MatrixSizes). steps_before sizes (length parts.chars.categories) ++ (h.reading ++ sorted)) are.matrix.sizes
           ∙ ap (λ (n : ℕ). steps_before are.connection.sizes n ++ (h.reading ++ sorted)) (ap length are.table.categories);
     }
 
--- three steps, and those behind them
-pub behind_three : (before : List Step) (a b c : Step) (steps : List Step) → (((before ++ a ∷ []) ++ b ∷ []) ++ c ∷ []) ++ steps ≡ before ++ a ∷ b ∷ c ∷ steps
+-- three steps, and those after them
+pub behind_three : (before : List CompileStep) (a b c : CompileStep) (steps : List CompileStep) → (((before ++ a ∷ []) ++ b ∷ []) ++ c ∷ []) ++ steps ≡ before ++ a ∷ b ∷ c ∷ steps
 behind_three before a b c steps =
     append_assoc ((before ++ a ∷ []) ++ b ∷ []) (c ∷ []) steps
     ∙ append_assoc (before ++ a ∷ []) (b ∷ []) (c ∷ steps)

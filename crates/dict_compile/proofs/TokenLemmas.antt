@@ -1,9 +1,9 @@
--- The tokens of a system dictionary are those of all its rows, one behind another.
+-- The tokens of a system dictionary are those of all its rows, one after another.
 use Rattle.std.proofs.Common.{◌≡◌, ℕ, suc, ◌+◌, List, [], ◌∷◌, ◌++◌, length, map, refl, sym, ap, ◌∙◌, arith}
 use Rattle.std.specs.Prelude.{flat_map, slice_index_or}
 use Rattle.std.specs.List.{enumerate_from, range_with_len}
 use Rattle.std.proofs.lemmas.Simd.{map-map}
-use Rattle.image_bytes.specs.ImageBounds.{lexicon_tokens}
+use Rattle.image_format.specs.ImageBounds.{lexicon_tokens}
 use Rattle.mj_model.specs.Dictionary.{lexeme_of}
 use Rattle.mj_model.specs.Lexicon.{Row}
 use Rattle.mj_model.specs.Tables.{Lexeme, Token}
@@ -58,7 +58,7 @@ unknown_by_category first unknown =
     ∙ by_number (tokens_from first unknown) 0 (unknown_tokens first unknown) (λ i. let e : 0 + i ≡ i = omega (arith) in ap (unknown_tokens first unknown) e)
     ∙ all_unknown first unknown
 
--- the tokens of the lexicon, and behind them those of each category, are those of all rows
+-- the tokens of the lexicon, followed by those of each category, are those of all rows
 pub all_tokens_are : (rows : List Row) (unknown : List (List Row))
     → lexicon_tokens (lexemes_of rows) ++ flat_map (unknown_tokens (length rows) unknown) (range_with_len 0 (length unknown)) ≡ tokens_of (all_rows rows unknown)
 all_tokens_are rows unknown =

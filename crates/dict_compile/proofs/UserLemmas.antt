@@ -1,22 +1,23 @@
--- The user image of what lexicons say is their compilation; lexicons compile, or have one first fault.
+-- The user image of parsed lexicons is their compilation; lexicons compile, or have exactly one
+-- first error.
 use Rattle.std.proofs.Common.{◌≡◌, ℕ, ◌≤◌, ◌<◌, List, [], length, refl, sym, ap, ◌∙◌, subst, arith, inl, inr}
 use Rattle.std.specs.Prelude.{false, Result, Ok, Err, IfOk, IfErr}
 use Rattle.std.proofs.lemmas.List.Sorted.{length_permutation}
 use Rattle.mj_model.specs.declared.source_fault.SourceFault.{SourceFault}
 use Rattle.dict_compile.specs.Compilation.{HaveUserTables, IsUserCompilation, IsUserCause, IsUserFault}
 use Rattle.mj_model.specs.Lexicon.{SkipLines, Row}
-use Rattle.image_bytes.specs.ImageBounds.{feature_bytes, feature_bytes_end, lexicon_tokens}
+use Rattle.image_format.specs.ImageBounds.{feature_bytes, feature_bytes_end, lexicon_tokens}
 use Rattle.mj_model.specs.declared.matrix_sizes.MatrixSizes.{MatrixSizes}
 use Rattle.mj_model.specs.Dictionary.{AreLexicons, IsInOrder, IsLexiconOf}
-use Rattle.mj_model.specs.FirstFault.{IsRefusal}
-use Rattle.image_bytes.specs.ImageMeaning.{image_lexicon, image_tables}
+use Rattle.mj_model.specs.FirstFault.{IsMemoryOr}
+use Rattle.image_format.specs.ImageMeaning.{image_lexicon, image_tables}
 use Rattle.mj_model.specs.Tables.{Tables, Lexeme, Token, User}
-use Rattle.image_bytes.specs.ImageBytes.{section}
+use Rattle.image_format.specs.ImageBytes.{section}
 use Rattle.image_writer.specs.Compact.{AreCellsFor, features_once}
 use Rattle.dict_compile.specs.declared.lexicons.LexiconsRead.{LexiconsRead}
 use Rattle.image_writer.specs.Entries.{lexemes_of, tokens_of}
-use Rattle.dict_compile.specs.Answers.{IsRefusedFor, IsToldFor}
-use Rattle.dict_compile.specs.UserImages.{IsSystemOf, IsUserImageOf, IsUserImageRefusal}
+use Rattle.dict_compile.specs.Results.{IsRejectedFor, IsReportedFor}
+use Rattle.dict_compile.specs.UserImages.{IsSystemOf, IsUserImageOf, IsUserImageError}
 use Rattle.dict_compile.specs.declared.compiled.Compiled.{Compiled}
 use Rattle.dict_compile.specs.declared.fault.CompileUserFault.{CompileUserFault}
 use Rattle.dict_compile.specs.declared.fault.CompileUserFault.TheVariants.{NotSystem, Source}
@@ -70,7 +71,7 @@ module _ (sizes : MatrixSizes) (system : Tables) (is : IsSystemOf sizes system) 
     unfolding user_tables
     have_rows ordered o = have_user (user_tables ordered) ordered o refl is.sizes_are refl
 
-    pub user_refusal : (fault : SourceFault) → IsUserImageRefusal read fault → IsRefusal fault (IsUserCause system lexicons fault)
+    pub user_refusal : (fault : SourceFault) → IsUserImageError read fault → IsMemoryOr fault (IsUserCause system lexicons fault)
     unfolding user_tables
     user_refusal fault (inl memory) = inl memory
     user_refusal fault (inr (inr full)) = let f = full.0 in inr (inr (is.kind, user_tables f.0, have_rows f.0 f.1, (f.2, full.1)))
@@ -85,11 +86,11 @@ module _ (sizes : MatrixSizes) (system : Tables) (is : IsSystemOf sizes system) 
           ),
         ))
 
-  pub lexicons_refused : (fault : SourceFault) → IsRefusal fault (AreLexicons sizes 3 [] lexicons (Err fault)) → IsRefusal fault (IsUserCause system lexicons fault)
+  pub lexicons_refused : (fault : SourceFault) → IsMemoryOr fault (AreLexicons sizes 3 [] lexicons (Err fault)) → IsMemoryOr fault (IsUserCause system lexicons fault)
   lexicons_refused fault (inl memory) = inl memory
   lexicons_refused fault (inr h) = inr (inl (is.kind, inl (subst (λ (s : MatrixSizes). AreLexicons s 3 [] lexicons (Err fault)) (sym is.sizes_are) h)))
 
--- ---- the first fault
+-- ---- the first error
 
 module _ (system : Tables) (lexicons : List (List ℕ)) where
   same_rows : (t : Tables) → HaveUserTables system.sizes lexicons t → (u : Tables) → HaveUserTables system.sizes lexicons u → t.lexicon ≡ u.lexicon
@@ -100,7 +101,7 @@ module _ (system : Tables) (lexicons : List (List ℕ)) where
   no_user : (fault : SourceFault) (t : Tables) → AreLexicons system.sizes 3 [] lexicons (Err fault) → HaveUserTables system.sizes lexicons t → ⊥
   no_user fault t h k = both (lexicons_one system.sizes 3 [] lexicons (Err fault) (Ok k.rows) h k.are_rows)
 
-  pub user_told_for : (fault told : SourceFault) → IsUserFault system lexicons fault → IsRefusal told (IsUserCause system lexicons told) → IsToldFor fault told
+  pub user_told_for : (fault told : SourceFault) → IsUserFault system lexicons fault → IsMemoryOr told (IsUserCause system lexicons told) → IsReportedFor fault told
   user_told_for fault told h (inl memory) = inr (inl memory)
   user_told_for fault told (s, inl h) (inr (inl (r, inl k))) = inl (same_error (lexicons_one system.sizes 3 [] lexicons (Err told) (Err fault) k h))
   user_told_for fault told (s, inl h) (inr (inl (r, inr k))) = absurd (no_user fault k.0 h k.1)
@@ -108,7 +109,7 @@ module _ (system : Tables) (lexicons : List (List ℕ)) where
   user_told_for fault told (s, inr h) (inr (inl (r, inr k))) = inl (k.2.1 ∙ sym h.2.1)
   user_told_for fault told h (inr (inr k)) = inr (inr (ap (λ (f : SourceFault). f.kind) k.3.1))
 
-  -- lexicons at fault have no tables with few features
+  -- invalid lexicons have no tables with small features
   pub not_both_for : (t : Tables) (fault : SourceFault) → HaveUserTables system.sizes lexicons t → feature_bytes (lexicon_tokens t.lexicon) < feature_bytes_end → IsUserFault system lexicons fault → ⊥
   not_both_for t fault have few (s, inl h) = no_user fault t h have
   not_both_for t fault have few (s, inr h) =
@@ -118,12 +119,12 @@ module _ (system : Tables) (lexicons : List (List ℕ)) where
   pub user_not_compiled : (image : List ℕ) (entries skipped : ℕ) (fault : SourceFault) → IsUserCompilation system lexicons image entries skipped → IsUserFault system lexicons fault → ⊥
   user_not_compiled image entries skipped fault c h = not_both_for (image_tables image) fault c.have c.compiled.few_features h
 
--- what is answered of lexicons at fault that were read
+-- the result for invalid lexicons that were read
 pub user_refused_for : (sizes : MatrixSizes) (system : Tables) (is : IsSystemOf sizes system) (lexicons : List (List ℕ)) (read : LexiconsRead) (kept : read.lexicon.sizes ≡ sizes)
     → AreLexicons sizes 3 [] lexicons (Ok read.lexicon.rows) → SkipLines lexicons read.skipped → (fault : SourceFault) (r : Result Compiled SourceFault) → IsUserFault system lexicons fault
-    → IfOk r (IsUserImageOf read) → IfErr r (IsUserImageRefusal read) → IsRefusedFor fault r
-user_refused_for sizes system is lexicons read kept h skips fault (Ok c) at image refused = user_not_compiled system lexicons c.image.items c.entries c.skipped fault (user_compilation sizes system is lexicons read kept h c skips image) at
-user_refused_for sizes system is lexicons read kept h skips fault (Err told) at image refused = user_told_for system lexicons fault told at (user_refusal sizes system is lexicons read kept h told refused)
+    → IfOk r (IsUserImageOf read) → IfErr r (IsUserImageError read) → IsRejectedFor fault r
+user_refused_for sizes system is lexicons read kept h skips fault (Ok c) at image rejected = user_not_compiled system lexicons c.image.items c.entries c.skipped fault (user_compilation sizes system is lexicons read kept h c skips image) at
+user_refused_for sizes system is lexicons read kept h skips fault (Err told) at image rejected = user_told_for system lexicons fault told at (user_refusal sizes system is lexicons read kept h told rejected)
 
 -- ---- the sizes of a system dictionary
 
@@ -135,6 +136,6 @@ told_or other (Ok compiled) = other
 told_or other (Err NotSystem) = other
 told_or other (Err (Source fault)) = fault
 
--- one fault is told
+-- equal results report equal errors
 pub same_told : {f g : SourceFault} → ◌≡◌ {A = Result Compiled CompileUserFault} (Err (Source f)) (Err (Source g)) → f ≡ g
 same_told {f} {g} e = ap (told_or f) e

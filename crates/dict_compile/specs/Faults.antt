@@ -1,4 +1,4 @@
--- How the faults of a compilation are told.
+-- The errors of a compilation as they are reported.
 use Rattle.std.specs.Prelude.{codes}
 use Rattle.mj_model.specs.declared.source_fault.TheConstants.{NO_FILE}
 use Rattle.mj_model.specs.declared.source_fault.SourceFault.{SourceFault}
@@ -7,7 +7,7 @@ use Rattle.mj_model.specs.FaultWords.{Words, source_words}
 use Rattle.dict_compile.specs.declared.fault.CompileUserFault.{CompileUserFault}
 use Rattle.dict_compile.specs.declared.fault.CompileUserFault.TheVariants.{NotSystem, Source}
 
--- a fault of a whole image, which belongs to no file
+-- an error of a whole image, which belongs to no file
 abbrev pub fault_of_image : SourceKind → SourceFault
 fault_of_image kind = record { file = NO_FILE; line = 0; kind = kind }
 

@@ -2,7 +2,7 @@ pub mod Compilation
 pub mod SourceOverlays
 pub mod CoveredTexts
 pub mod Faults
-pub mod Answers
+pub mod Results
 pub mod Outcomes
 pub mod UserOutcomes
 pub mod Images

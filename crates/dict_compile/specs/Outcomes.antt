@@ -1,26 +1,27 @@
--- What comes of the compilation of a system dictionary's sources, whoever watches it.
+-- The outcomes of compiling a system dictionary, independent of the `Watch`.
 use Rattle.std.specs.Prelude.{Result}
 use Rattle.mj_model.specs.declared.source_fault.SourceFault.{SourceFault}
 use Rattle.mj_model.specs.declared.sources.Sources.{Sources}
-use Rattle.mj_model.specs.FirstFault.{IsRefusal}
-use Rattle.image_bytes.specs.ImageMeaning.{image_tables}
+use Rattle.mj_model.specs.FirstFault.{IsMemoryOr}
+use Rattle.image_format.specs.ImageMeaning.{image_tables}
 use Rattle.dict_compile.specs.declared.compiled.Compiled.{Compiled}
-use Rattle.dict_compile.specs.Answers.{IsRefusedFor}
+use Rattle.dict_compile.specs.Results.{IsRejectedFor}
 use Rattle.dict_compile.specs.Compilation.{IsCompilation, IsCompilationCause, IsCompilationFault}
-use Rattle.dict_compile.specs.EveryKey.{AnswersKeysOfSources}
+use Rattle.dict_compile.specs.EveryKey.{FindsKeysOfSources}
 
--- the image says what the sources say, and the counts are those of their lines
+-- the image has the tables of the sources, and the statistics are those of their lines
 abbrev pub IsCompiledFrom : Sources → Compiled → Type 0
 IsCompiledFrom s compiled = IsCompilation s compiled.image.items compiled.entries compiled.skipped
 
--- the image answers every key with the rows of the sources
-abbrev pub AnswersKeysFrom : Sources → Compiled → Type 0
-AnswersKeysFrom s compiled = AnswersKeysOfSources s (image_tables compiled.image.items)
+-- the image has the rows of the sources under every key
+abbrev pub FindsKeysFrom : Sources → Compiled → Type 0
+FindsKeysFrom s compiled = FindsKeysOfSources s (image_tables compiled.image.items)
 
--- the compilation is refused so
-abbrev pub IsCompilationRefusal : Sources → SourceFault → Type 0
-IsCompilationRefusal s fault = IsRefusal fault (IsCompilationCause s fault)
+-- the errors of a compilation
+abbrev pub IsCompilationError : Sources → SourceFault → Type 0
+IsCompilationError s fault = IsMemoryOr fault (IsCompilationCause s fault)
 
--- sources at fault are refused with their first fault, want of memory and of cells aside
-abbrev pub IsRefusedAtFault : Sources → Result Compiled SourceFault → Type 0
-IsRefusedAtFault s result = (fault : SourceFault) → IsCompilationFault s fault → IsRefusedFor fault result
+-- invalid sources are rejected with their first error, unless an allocation fails or the double
+-- array is full
+abbrev pub IsRejectedAtFault : Sources → Result Compiled SourceFault → Type 0
+IsRejectedAtFault s result = (fault : SourceFault) → IsCompilationFault s fault → IsRejectedFor fault result

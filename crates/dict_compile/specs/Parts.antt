@@ -1,9 +1,9 @@
--- What the sources of a system dictionary say, file by file.
+-- The parsed sources of a system dictionary.
 use Rattle.std.specs.Prelude.{◌≡◌, [], length, Ok}
 use Rattle.mj_model.specs.declared.source_fault.SourceFault.{SourceFault}
 use Rattle.mj_model.specs.declared.sources.Sources.{Sources}
 use Rattle.mj_model.specs.CharDef.{CharSource}
-use Rattle.mj_model.specs.FirstFault.{IsRefusal}
+use Rattle.mj_model.specs.FirstFault.{IsMemoryOr}
 use Rattle.mj_model.specs.Lexicon.{SkipLines}
 use Rattle.mj_model.specs.Connection.{Connection}
 use Rattle.mj_model.specs.SourceTables.{AreChars, AreRows, AreUnknown, IsConnection, IsSourcesFault, lexicon_bytes}
@@ -12,7 +12,7 @@ use Rattle.char_def.specs.Categories.{IsTableOf}
 use Rattle.char_def.specs.Outside.{all_lines_outside}
 use Rattle.dict_compile.specs.declared.parts.SourceParts.{SourceParts}
 
--- the sources are accepted, and these are what they say
+-- the sources are valid, and these are their contents
 pub record AreParts (s : Sources) (parts : SourceParts) : Type 0 where
   pub connection : Connection
   pub is_connection : IsConnection s connection
@@ -24,12 +24,13 @@ pub record AreParts (s : Sources) (parts : SourceParts) : Type 0 where
   pub rows : AreRows s connection (Ok parts.lexicon.rows)
   pub skipped : SkipLines (lexicon_bytes s) parts.skipped
 
--- the parts belong together: all ids lie within the sizes of the matrix, and each category has its list of unknown entries
+-- the parts fit together: all ids are within the sizes of the matrix, and each category has a list
+-- of unknown entries
 pub record FitTogether (parts : SourceParts) : Type 0 where
   pub sizes : parts.lexicon.sizes ≡ parts.matrix.sizes
   pub categories : length parts.unknown ≡ length parts.chars.categories
   pub ids : all_lines_outside parts.matrix.sizes parts.unknown ≡ []
 
--- the reading of the sources is refused so: for their first fault, or want of memory
-abbrev pub IsReadingRefusal : Sources → SourceFault → Type 0
-IsReadingRefusal s fault = IsRefusal fault (IsSourcesFault s fault)
+-- the errors of reading the sources: their first error, or out of memory
+abbrev pub IsReadingError : Sources → SourceFault → Type 0
+IsReadingError s fault = IsMemoryOr fault (IsSourcesFault s fault)

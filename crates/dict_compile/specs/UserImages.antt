@@ -1,9 +1,9 @@
--- User images of the rows of lexicons.
+-- User images of parsed lexicons.
 use Rattle.std.specs.Prelude.{◌≡◌, List, length}
 use Rattle.mj_model.specs.declared.source_fault.SourceFault.{SourceFault}
 use Rattle.mj_model.specs.declared.matrix_sizes.MatrixSizes.{MatrixSizes}
 use Rattle.mj_model.specs.Dictionary.{IsInOrder}
-use Rattle.mj_model.specs.FirstFault.{IsRefusal}
+use Rattle.mj_model.specs.FirstFault.{IsMemoryOr}
 use Rattle.mj_model.specs.Lexicon.{Row}
 use Rattle.mj_model.specs.Tables.{Tables, System}
 use Rattle.dict_compile.specs.declared.lexicons.LexiconsRead.{LexiconsRead}
@@ -17,7 +17,7 @@ pub record IsSystemOf (sizes : MatrixSizes) (system : Tables) : Type 0 where
   pub kind : system.kind ≡ System
   pub sizes_are : system.sizes ≡ sizes
 
--- a user image of the entries, with their counts
+-- a user image of the entries, with their statistics
 pub record IsUserImageOf (read : LexiconsRead) (compiled : Compiled) : Type 0 where
   pub ordered : List Row
   pub in_order : IsInOrder read.lexicon.rows ordered
@@ -25,10 +25,10 @@ pub record IsUserImageOf (read : LexiconsRead) (compiled : Compiled) : Type 0 wh
   pub entries : compiled.entries ≡ length read.lexicon.rows
   pub skipped : compiled.skipped ≡ read.skipped
 
--- the features of the rows are too many for an image
+-- the features of the rows exceed the limit of an image
 abbrev pub HasTooLarge : List Row → Type 0
 HasTooLarge rows = (ordered : List Row) × IsInOrder rows ordered × IsTooLarge ordered
 
--- the user image of these entries is refused so
-abbrev pub IsUserImageRefusal : LexiconsRead → SourceFault → Type 0
-IsUserImageRefusal read fault = IsRefusal fault (IsImageCause (HasTooLarge read.lexicon.rows) (MayLackCells read.lexicon.rows) fault)
+-- the errors of the user image of these entries
+abbrev pub IsUserImageError : LexiconsRead → SourceFault → Type 0
+IsUserImageError read fault = IsMemoryOr fault (IsImageCause (HasTooLarge read.lexicon.rows) (MayLackCells read.lexicon.rows) fault)

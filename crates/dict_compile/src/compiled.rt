@@ -1,11 +1,12 @@
-//! What a compilation answers.
+//! The result of a compilation.
 
-/// An image, with the counts of its sources' lines.
+/// An image, and statistics of its sources.
 #[derive(Debug, Drop)]
 pub struct Compiled {
+    /// The bytes of the image.
     pub image: Vec<u8>,
-    /// How many entries the lexicon has.
+    /// The number of lexicon entries.
     pub entries: u64,
-    /// How many lines of the lexicons were skipped, since their surface is empty.
+    /// The number of lexicon lines that were skipped because their surface is empty.
     pub skipped: u128,
 }

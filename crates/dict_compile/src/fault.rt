@@ -1,19 +1,19 @@
-//! Why a dictionary isn't compiled.
+//! The errors of a compilation.
 
 ghost use Rattle.std.specs.Prelude.{◌≡◌};
 ghost use Rattle.dict_compile.specs.Faults.{fault_of_image, user_words};
 ghost use Rattle.dict_compile.specs.declared.fault.CompileUserFault.TheVariants.{Source};
 
-use mj_model::{NO_FILE, NamedFault, SourceFault, SourceKind, write_words};
+use mj_model::{NO_FILE, NamedFault, SourceFault, SourceKind, write_code_and_name};
 use std::fmt::{self, Display, Formatter, Write};
 use thiserror::Error;
 
-/// Why a user dictionary isn't compiled.
+/// An error of the compilation of a user dictionary.
 #[derive(Clone, Copy, Debug, PartialEq, Eq, Drop, Error)]
 pub enum CompileUserFault {
-    /// The dictionary that it was to be compiled for is a user dictionary itself.
+    /// The dictionary that it was compiled for is a user dictionary itself.
     NotSystem,
-    /// Its lexicons are refused.
+    /// The lexicons are invalid or too large, or an allocation failed.
     Source(SourceFault),
 }
 
@@ -39,13 +39,13 @@ impl NamedFault for CompileUserFault {
 impl Display for CompileUserFault {
     fn fmt<W: Write>(&self, f: &mut Formatter<W>) -> fmt::Result {
         match *self {
-            CompileUserFault::NotSystem => write_words(*self, f),
+            CompileUserFault::NotSystem => write_code_and_name(*self, f),
             CompileUserFault::Source(fault) => fault.fmt(f),
         }
     }
 }
 
-/// A fault of the image as a whole, which belongs to no file.
+/// Returns an error of the image as a whole, which belongs to no file.
 pub(crate) fn of_image(kind: SourceKind) -> SourceFault
     ensures { result ≡ fault_of_image kind }
 {

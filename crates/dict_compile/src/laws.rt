@@ -1,14 +1,15 @@
-//! Laws of sources: facts that hold of all of them.
+//! Laws of all sources.
 
 ghost use Rattle.dict_compile.specs.CoveredTexts.{SourcesCoverAll, SourcesCoverTexts, SourcesHaveWords};
-ghost use Rattle.mj_model.specs.SourceTables.{SayOneThing};
+ghost use Rattle.mj_model.specs.SourceTables.{HaveOneMeaning};
 
-/// All tables that sources have say the same of each code point.
+/// States that all tables of the same sources agree on each code point.
 pub fn sources_say_one_thing()
-    ensures { SayOneThing }
+    ensures { HaveOneMeaning }
 {}
 
-/// The tables of accepted sources, with those of users' lexicons laid over them or without, cut every text, for every grouping.
+/// States that a dictionary of accepted sources segments every text, with or without user
+/// dictionaries, for every grouping.
 pub fn sources_cover_texts()
     ensures words { SourcesHaveWords }
     ensures entries { SourcesCoverAll }

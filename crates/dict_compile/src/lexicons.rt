@@ -1,19 +1,19 @@
-//! The lexicons of a source directory.
+//! Reading of the lexicons of a dictionary.
 
 ghost use Rattle.std.specs.Prelude.{◌≡◌, ◌+◌, ◌≤◌, ◌^◌, [], Ok, Err, IfOk, IfErr};
 ghost use Rattle.mj_model.specs.Dictionary.{AreLexicons, next_file};
-ghost use Rattle.mj_model.specs.FirstFault.{IsRefusal};
+ghost use Rattle.mj_model.specs.FirstFault.{IsMemoryOr};
 ghost use Rattle.mj_model.specs.Lexicon.{SkipLines};
 ghost use Rattle.mj_model.specs.declared.source_fault.TheConstants.{FIRST_LEXICON_FILE as FirstFile};
-ghost use Rattle.dict_compile.specs.Answers.{lexicons_of};
-ghost use Rattle.dict_compile.specs.Steps.{AreLexiconSteps, TellsSteps};
+ghost use Rattle.dict_compile.specs.Results.{lexicons_of};
+ghost use Rattle.dict_compile.specs.Steps.{AreLexiconSteps, ReportsSteps};
 
-use crate::watch::{Step, Watch};
+use crate::watch::{CompileStep, Watch};
 use lex_source::SourceLexicon;
 use mj_model::{FIRST_LEXICON_FILE, LAST_LEXICON_FILE, MatrixSizes, SourceFault};
 use std::alloc::Global;
 
-fn file_behind(file: u32) -> u32
+fn file_after(file: u32) -> u32
     ensures { result ≡ next_file file }
 {
     if file < LAST_LEXICON_FILE {
@@ -23,7 +23,7 @@ fn file_behind(file: u32) -> u32
     }
 }
 
-/// The entries of some lexicons in source order, and how many lines were skipped.
+/// The entries of some lexicons in source order, and the number of skipped lines.
 #[derive(Drop)]
 pub(crate) struct LexiconsRead<'a> {
     pub(crate) lexicon: SourceLexicon<'a>,
@@ -38,7 +38,7 @@ fn with_more(skipped: u128, more: u64) -> u128
     skipped + u128::from(more)
 }
 
-/// Reads the lexicons one after another, up to the first fault.
+/// Reads the lexicons in order, up to the first error. Reports each one to `watch`.
 pub(crate) fn read_lexicons<'a, W: Watch>(
     alloc: Global,
     lexicons: &[&'a [u8]],
@@ -49,9 +49,9 @@ pub(crate) fn read_lexicons<'a, W: Watch>(
     ensures accepted { IfOk result (λ read. AreLexicons sizes FirstFile []
         (lexicons_of lexicons.now) (Ok read.lexicon.rows)) }
     ensures skipped { IfOk result (λ read. SkipLines (lexicons_of lexicons.now) read.skipped) }
-    ensures refused { IfErr result (λ fault. IsRefusal fault
+    ensures rejected { IfErr result (λ fault. IsMemoryOr fault
         (AreLexicons sizes FirstFile [] (lexicons_of lexicons.now) (Err fault))) }
-    ensures steps { TellsSteps (W.told watch.old) (W.told watch.new)
+    ensures steps { ReportsSteps (W.reported watch.old) (W.reported watch.new)
         (λ _. AreLexiconSteps sizes (lexicons_of lexicons.now)) result }
 {
     let mut lexicon = SourceLexicon::new(alloc, sizes);
@@ -60,8 +60,8 @@ pub(crate) fn read_lexicons<'a, W: Watch>(
     for bytes in lexicons {
         let more = lexicon.add(alloc, bytes, file)?;
         skipped = with_more(skipped, more);
-        file = file_behind(file);
-        watch.done(Step::LexiconRead {
+        file = file_after(file);
+        watch.done(CompileStep::LexiconRead {
             entries: lexicon.len() as u64,
         });
     }

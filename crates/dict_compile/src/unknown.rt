@@ -1,7 +1,7 @@
-//! The unknown entries of a dictionary's sources.
+//! Reading of the unknown entries.
 
 ghost use Rattle.std.specs.Prelude.{◌≡◌, [], length, Ok, Err, IfOk, IfErr};
-ghost use Rattle.mj_model.specs.FirstFault.{IsRefusal};
+ghost use Rattle.mj_model.specs.FirstFault.{IsMemoryOr};
 ghost use Rattle.char_def.specs.Outside.{all_lines_outside};
 ghost use Rattle.mj_model.specs.UnkDef.{IsUnkWithin};
 
@@ -9,7 +9,7 @@ use char_def::{CharTable, UnkTable, read_unk};
 use mj_model::{MatrixSizes, SourceFault, SourceKind, UNK_FILE};
 use std::alloc::Global;
 
-/// Reads `unk.def`; its ids have to lie within the sizes.
+/// Reads `unk.def`. Returns `IdOutside` if an id is outside `sizes`.
 pub(crate) fn read_unknown<'a>(
     alloc: Global,
     bytes: &'a [u8],
@@ -20,7 +20,7 @@ pub(crate) fn read_unknown<'a>(
         (Ok unk)) }
     ensures count { IfOk result (λ unk. length unk ≡ length chars.now.categories) }
     ensures within { IfOk result (λ unk. all_lines_outside sizes unk ≡ []) }
-    ensures refused { IfErr result (λ fault. IsRefusal fault
+    ensures rejected { IfErr result (λ fault. IsMemoryOr fault
         (IsUnkWithin sizes chars.now.categories bytes.now (Err fault))) }
 {
     let unknown = read_unk(alloc, bytes, chars)?;

@@ -1,16 +1,16 @@
-//! The compilation of a user dictionary.
+//! Compilation of a user dictionary.
 
 ghost use Rattle.std.specs.Prelude.{◌≡◌, ◌↔◌, Err, IfOk, IfErr};
 ghost use Rattle.mj_model.specs.declared.source_fault.SourceFault.{SourceFault as FaultOf};
 ghost use Rattle.dict_compile.specs.Compilation.{IsUserCompilation, IsUserCause, IsUserFault};
-ghost use Rattle.mj_model.specs.FirstFault.{IsRefusal};
-ghost use Rattle.image_bytes.specs.ImageMeaning.{image_tables};
+ghost use Rattle.mj_model.specs.FirstFault.{IsMemoryOr};
+ghost use Rattle.image_format.specs.ImageMeaning.{image_tables};
 ghost use Rattle.mj_model.specs.Tables.{Tables as TablesOf, User};
 ghost use Rattle.mj_model.specs.Connection.{AreMatrixSizes};
-ghost use Rattle.dict_compile.specs.Answers.{IsRefusedFor, lexicons_of};
-ghost use Rattle.dict_compile.specs.Steps.{AreEntrySteps, TellsSteps};
+ghost use Rattle.dict_compile.specs.Results.{IsRejectedFor, lexicons_of};
+ghost use Rattle.dict_compile.specs.Steps.{AreEntrySteps, ReportsSteps};
 ghost use Rattle.dict_compile.specs.UserImages.{IsSystemOf};
-ghost use Rattle.dict_compile.specs.UserOutcomes.{AnswersUserKeysFrom, IsUserCompiledFrom, IsUserRefusal, IsUserRefusedAtFault};
+ghost use Rattle.dict_compile.specs.UserOutcomes.{FindsUserKeysFrom, IsUserCompiledFrom, IsUserError, IsUserRejectedAtFault};
 ghost use Rattle.dict_compile.specs.declared.fault.CompileUserFault.TheVariants.{NotSystem};
 
 use crate::compiled::Compiled;
@@ -22,24 +22,28 @@ use dict_image::Dict;
 use mj_model::{MatrixSizes, SourceFault};
 use std::alloc::Global;
 
-/// Compiles the lexicons of a user dictionary, for the ids of a system dictionary, to an image of layout 3.
+/// Compiles the lexicons of a user dictionary to an image of layout 3. Their ids must be within the
+/// sizes of the dictionary `system`. Returns `NotSystem` if that is not a system dictionary,
+/// otherwise the first error.
 ///
-/// The first lexicon is file 3, as in a system's sources. (MeCab, `mecab-dict-index -u`; the numbers are this project's own choice)
+/// Errors count the first lexicon as file 3, as in the sources of a system dictionary. (MeCab,
+/// `mecab-dict-index -u`; the numbers are this project's own choice)
 pub fn compile_user(
     alloc: Global,
     system: &Dict,
     lexicons: &[&[u8]],
 ) -> Result<Compiled, CompileUserFault>
     ensures compiled { IfOk result (IsUserCompiledFrom system.now (lexicons_of lexicons.now)) }
-    ensures every_key { IfOk result (AnswersUserKeysFrom system.now (lexicons_of lexicons.now)) }
+    ensures every_key { IfOk result (FindsUserKeysFrom system.now (lexicons_of lexicons.now)) }
     ensures not_system { (result ≡ Err NotSystem) ↔ ((image_tables system.now).kind ≡ User) }
-    ensures refused { IsUserRefusal system.now (lexicons_of lexicons.now) result }
-    ensures first { IsUserRefusedAtFault system.now (lexicons_of lexicons.now) result }
+    ensures rejected { IsUserError system.now (lexicons_of lexicons.now) result }
+    ensures first { IsUserRejectedAtFault system.now (lexicons_of lexicons.now) result }
 {
     compile_user_watched(alloc, system, lexicons, &mut Unwatched {})
 }
 
-/// The same, while somebody watches.
+/// Compiles the lexicons of a user dictionary for the dictionary `system`, and reports each step to
+/// `watch`. Errors are those of `compile_user`.
 pub fn compile_user_watched<W: Watch>(
     alloc: Global,
     system: &Dict,
@@ -47,12 +51,12 @@ pub fn compile_user_watched<W: Watch>(
     watch: &mut W,
 ) -> Result<Compiled, CompileUserFault>
     ensures compiled { IfOk result (IsUserCompiledFrom system.now (lexicons_of lexicons.now)) }
-    ensures every_key { IfOk result (AnswersUserKeysFrom system.now (lexicons_of lexicons.now)) }
+    ensures every_key { IfOk result (FindsUserKeysFrom system.now (lexicons_of lexicons.now)) }
     ensures not_system { (result ≡ Err NotSystem) ↔ ((image_tables system.now).kind ≡ User) }
-    ensures refused { IsUserRefusal system.now (lexicons_of lexicons.now) result }
-    ensures first { IsUserRefusedAtFault system.now (lexicons_of lexicons.now) result }
-    // Whoever watches is told all steps, each of them once and in their order.
-    ensures steps { TellsSteps (W.told watch.old) (W.told watch.new)
+    ensures rejected { IsUserError system.now (lexicons_of lexicons.now) result }
+    ensures first { IsUserRejectedAtFault system.now (lexicons_of lexicons.now) result }
+    // Each step is reported exactly once, in order.
+    ensures steps { ReportsSteps (W.reported watch.old) (W.reported watch.new)
         (λ _. AreEntrySteps (image_tables system.now).sizes (lexicons_of lexicons.now)) result }
 {
     if system.is_user() {
@@ -73,11 +77,11 @@ fn compile_lexicons<W: Watch>(
     ensures compiled { (system : TablesOf) → IsSystemOf sizes system
         → IfOk result (λ compiled. IsUserCompilation system (lexicons_of lexicons.now)
         compiled.image.items compiled.entries compiled.skipped) }
-    ensures refused { (system : TablesOf) → IsSystemOf sizes system → IfErr result
-        (λ fault. IsRefusal fault (IsUserCause system (lexicons_of lexicons.now) fault)) }
+    ensures rejected { (system : TablesOf) → IsSystemOf sizes system → IfErr result
+        (λ fault. IsMemoryOr fault (IsUserCause system (lexicons_of lexicons.now) fault)) }
     ensures first { (system : TablesOf) → IsSystemOf sizes system → (fault : FaultOf)
-        → IsUserFault system (lexicons_of lexicons.now) fault → IsRefusedFor fault result }
-    ensures steps { TellsSteps (W.told watch.old) (W.told watch.new)
+        → IsUserFault system (lexicons_of lexicons.now) fault → IsRejectedFor fault result }
+    ensures steps { ReportsSteps (W.reported watch.old) (W.reported watch.new)
         (λ _. AreEntrySteps sizes (lexicons_of lexicons.now)) result }
 {
     let read = read_lexicons(alloc, lexicons, sizes, watch)?;

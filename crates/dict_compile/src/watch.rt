@@ -1,41 +1,42 @@
-//! What a compilation has done so far, for whoever watches it.
+//! Progress of a compilation.
 
 ghost use Rattle.std.specs.Prelude.{List, [], ◌∷◌, ◌++◌};
-ghost use Rattle.dict_compile.specs.declared.watch.Step.{Step as StepOf};
+ghost use Rattle.dict_compile.specs.declared.watch.CompileStep.{CompileStep as StepOf};
 
 use mj_model::MatrixSizes;
 
-/// A step of a compilation that is done.
+/// A completed step of a compilation.
 #[derive(Clone, Copy, Debug, PartialEq, Eq)]
-pub enum Step {
-    /// `matrix.def` was read, for so many right ids and left ids.
+pub enum CompileStep {
+    /// `matrix.def` was read, with these numbers of right ids and left ids.
     MatrixRead(MatrixSizes),
-    /// `char.def` was read, with so many categories.
+    /// `char.def` was read, with this number of categories.
     CategoriesRead(usize),
     /// `unk.def` was read.
     UnknownRead,
-    /// A lexicon was read. With those before it there are so many entries.
+    /// A lexicon was read. `entries` counts the entries of this lexicon and of those before it.
     LexiconRead { entries: u64 },
-    /// All entries were sorted by their surfaces.
+    /// All entries were sorted by their surfaces. `entries` is their number.
     Sorted { entries: u64 },
 }
 
-/// Who watches a compilation, and is told each step as soon as it is done.
+/// A receiver of progress reports.
 pub trait Watch {
-    /// It was told these steps, in this order.
-    ghost told: { Self → List StepOf → Type 0 };
+    /// Holds of the steps that were reported so far, in order.
+    ghost reported: { Self → List StepOf → Type 0 };
 
-    fn done(&mut self, step: Step)
-        ensures { (steps : List StepOf) → told self.old steps
-            → told self.new (steps ++ step ∷ []) };
+    /// Receives a step as soon as it is completed.
+    fn done(&mut self, step: CompileStep)
+        ensures { (steps : List StepOf) → reported self.old steps
+            → reported self.new (steps ++ step ∷ []) };
 }
 
-/// Nobody watches.
+/// A receiver that ignores all reports.
 #[derive(Drop)]
 pub(crate) struct Unwatched {}
 
 impl Watch for Unwatched {
-    ghost told = { λ _ _. Unit {0} };
+    ghost reported = { λ _ _. Unit {0} };
 
-    fn done(&mut self, _step: Step) {}
+    fn done(&mut self, _step: CompileStep) {}
 }

@@ -1,20 +1,20 @@
 -- The keys of groups in cells: two groups never have one key, since a key has one value in the cells.
 use Rattle.std.specs.Prelude.{IsUtf8}
 use Rattle.std.proofs.Common.{◌≡◌, ℕ, ◌<◌, List, Some, sym, ◌∙◌, subst}
-use Rattle.cell_walk.specs.CellMap.{Cell, walk, codes_of, value_of}
-use Rattle.cell_walk.specs.CellRules.{MeetsRules}
-use Rattle.image_bytes.specs.ImageFaults.{HasKey}
-use Rattle.image_bytes.specs.ImageSections.{StandsOnce, key_of}
+use Rattle.mj_model.specs.CellMap.{Cell, walk, codes_of, value_of}
+use Rattle.mj_model.specs.CellRules.{MeetsRules}
+use Rattle.image_format.specs.ImageFaults.{HasKey}
+use Rattle.image_format.specs.ImageSections.{OccursOnce, key_of}
 use Rattle.mj_model.proofs.Basics.{same_negsuc}
-use Rattle.cell_walk.proofs.CellWalks.{value_parts, step_child, walk_is_one}
-use Rattle.cell_walk.proofs.KeyWalks.{same_key}
-use Rattle.image_bytes.proofs.ImageKeys.{key_state, key_is}
+use Rattle.mj_model.proofs.CellWalks.{value_parts, step_child, walk_is_one}
+use Rattle.mj_model.proofs.KeyWalks.{same_key}
+use Rattle.image_format.proofs.ImageKeys.{key_state, key_is}
 use Rattle.dict_image.specs.Groups.{AreGroups}
 
 -- the cells of a lexicon of so many groups: they meet the rules, hold each group once, and each group has a key
 pub record AreKeys (groups : ℕ) (cells : List Cell) : Type 0 where
   pub rules : MeetsRules groups cells
-  pub once : (group : ℕ) → group < groups → StandsOnce cells group
+  pub once : (group : ℕ) → group < groups → OccursOnce cells group
   pub keys : (group : ℕ) → group < groups → HasKey cells group
 
 -- a key's value is the number of a group
@@ -26,7 +26,7 @@ value_below groups cells key v rules h =
     subst (λ (n : ℕ). n < groups) (same_negsuc held.0 v (sym held.2 ∙ at.1.holds)) held.1
 
 -- a group has one key
-one_key : (groups : ℕ) (cells : List Cell) (k l : List ℕ) (v : ℕ) → MeetsRules groups cells → StandsOnce cells v → value_of cells k ≡ Some v → value_of cells l ≡ Some v → k ≡ l
+one_key : (groups : ℕ) (cells : List Cell) (k l : List ℕ) (v : ℕ) → MeetsRules groups cells → OccursOnce cells v → value_of cells k ≡ Some v → value_of cells l ≡ Some v → k ≡ l
 one_key groups cells k l v rules once a b =
     let p = value_parts cells k v a in
     let q = value_parts cells l v b in

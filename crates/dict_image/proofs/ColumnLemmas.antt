@@ -6,7 +6,7 @@ use Rattle.dict_image.specs.Columns.{IsColumnSet}
 use Rattle.dict_image.proofs.RowLemmas.{in_rows}
 use Rattle.dict_image.proofs.SetLemmas.{set_elsewhere, set_here}
 
--- costs of different rows stand apart
+-- costs of different rows have different indexes
 apart : (row other width column before : ℕ) → column < width → before < column → row * width + before ≡ other * width + column → ⊥
 apart row other width column before within less same = elim (cases_lt row other) [
   | inl earlier ↦

@@ -5,9 +5,9 @@ use Rattle.std.proofs.lemmas.List.FromFn.{get_or-map-range_with_len, length-map-
 use Rattle.std.proofs.lemmas.Option.{slice_get-get_or}
 use Rattle.mj_model.specs.Connection.{is_pair}
 use Rattle.mj_model.specs.declared.matrix_sizes.MatrixSizes.{MatrixSizes}
-use Rattle.image_bytes.specs.ImageBytes.{header_of, section}
-use Rattle.image_bytes.specs.ImageMeaning.{image_tables}
-use Rattle.image_bytes.specs.ImageSections.{stored_cost}
+use Rattle.image_format.specs.ImageBytes.{header_of, section}
+use Rattle.image_format.specs.ImageMeaning.{image_tables}
+use Rattle.image_format.specs.ImageSections.{stored_cost}
 use Rattle.dict_image.specs.declared.costs_before.SectionRow.{SectionRow}
 use Rattle.dict_image.specs.CostRows.{AreCostsBefore, AreStoredBefore, costs_in_section}
 use Rattle.dict_image.proofs.FittingLemmas.{pair_within}
@@ -31,7 +31,7 @@ of_image bytes left row are = λ right pair.
     are right (pair_within sizes right left pair).0
     ∙ ap Some (sym (cond-true (is_pair sizes right left) (stored_cost sizes (section bytes 1) right left) (pos 0) pair))
 
--- what the section of an image has before a left id is what the image stores there
+-- the section of an image holds the stored costs of a left id
 pub stored_here : (bytes : List ℕ) (left : ℕ) (s : SectionRow) → s.costs.now ≡ section bytes 1 → s.sizes ≡ (header_of bytes).sizes → s.left ≡ left → AreStoredBefore (header_of bytes).sizes (section bytes 1) left (costs_in_section s)
 stored_here bytes left s costs sizes is = λ right less.
     in_section s right (subst (λ (m : MatrixSizes). right < m.right) (sym sizes) less)

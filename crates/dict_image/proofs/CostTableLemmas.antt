@@ -1,12 +1,12 @@
 -- The table of connection costs of an image.
 use Rattle.std.proofs.Common.{◌≡◌, ℕ, List, sym, subst}
-use Rattle.image_bytes.specs.declared.header.Header.{Header}
-use Rattle.image_bytes.specs.ImageBytes.{header_of, kind_of, section}
-use Rattle.image_bytes.specs.ImageSections.{AreCosts}
+use Rattle.image_format.specs.declared.header.Header.{Header}
+use Rattle.image_format.specs.ImageBytes.{header_of, kind_of, section}
+use Rattle.image_format.specs.ImageSections.{AreCosts}
 use Rattle.mj_model.specs.Tables.{System}
 use Rattle.dict_image.specs.declared.cost_table.CostTable.{CostTable}
 use Rattle.dict_image.specs.CostTables.{IsCostTable}
-use Rattle.image_check.specs.Outlines.{IsImage}
+use Rattle.dict_image.specs.Validation.Outlines.{IsImage}
 use Rattle.dict_image.proofs.FormedLemmas.{costs_are}
 
 pub costs_in : (bytes : List ℕ) (h : Header) (costs : List ℕ) → h ≡ header_of bytes → costs ≡ section bytes 1 → IsImage bytes → kind_of h ≡ System → AreCosts h.sizes costs

@@ -7,15 +7,15 @@ use Rattle.std.proofs.Math.Nat.{mul-div-le}
 use Rattle.std.proofs.lemmas.List.{drop_at, length-drop, length-take, map-append, take-append-drop}
 use Rattle.std.proofs.lemmas.List.FromFn.{get_or-map-range_with_len, length-map-range_with_len, take-map-range_with_len}
 use Rattle.std.proofs.lemmas.Option.{slice_get-get_or}
-use Rattle.image_bytes.specs.ImageBytes.{all_tokens, header_of, number_at, section}
-use Rattle.image_bytes.specs.ImageMeaning.{image_tables, image_token}
-use Rattle.image_bytes.proofs.NumberLemmas.{number_behind, number_kept}
-use Rattle.image_check.specs.Outlines.{IsImage}
+use Rattle.image_format.specs.ImageBytes.{all_tokens, header_of, number_at, section}
+use Rattle.image_format.specs.ImageMeaning.{image_tables, image_token}
+use Rattle.image_format.proofs.NumberLemmas.{number_behind, number_kept}
+use Rattle.dict_image.specs.Validation.Outlines.{IsImage}
 use Rattle.mj_model.specs.Tables.{Token}
 use Rattle.dict_image.specs.declared.ids_and_cost.IdsAndCost.{IdsAndCost}
 use Rattle.dict_image.specs.EntryRows.{stored_ids, stored_row}
 use Rattle.dict_image.specs.Numbered.{numbered_tokens}
-use Rattle.dict_image.specs.Seen.{ids_and_cost_of}
+use Rattle.dict_image.specs.Views.{ids_and_cost_of}
 use Rattle.dict_image.proofs.FormedLemmas.{tokens_are}
 use Rattle.dict_image.proofs.NumberLemmas.{range_joined}
 use Rattle.dict_image.proofs.NumberedTokens.{all_numbered, numbered_count}

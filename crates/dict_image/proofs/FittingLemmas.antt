@@ -13,19 +13,19 @@ use Rattle.std.proofs.lemmas.List.FromFn.{map-range_with_len_more}
 use Rattle.mj_model.specs.Bounds.{IsWithin}
 use Rattle.mj_model.specs.declared.matrix_sizes.MatrixSizes.{MatrixSizes}
 use Rattle.mj_model.specs.Connection.{is_pair}
-use Rattle.image_bytes.specs.ImageBytes.{kind_of, number_at, signed_2_at, header_of, all_tokens, section}
-use Rattle.image_bytes.specs.ImageMeaning.{image_info, image_unknown, info_in, tokens_in, entry_under, image_tables, key_in, lexicon_sections, entries_of_group}
-use Rattle.image_bytes.specs.declared.layout.InfoForm.{InfoForm}
-use Rattle.image_bytes.specs.declared.layout.InfoForm.TheVariants as info
-use Rattle.image_bytes.specs.ImageFaults.{AreInfos}
-use Rattle.image_bytes.specs.Layouts.{info_form, key_form}
-use Rattle.image_bytes.specs.OlderSections.{AreEntries, entry_at, own_entries}
-use Rattle.image_bytes.specs.ImageSections.{AreRanges, IsIndex, StoredRange, range_at, stored_info, no_info, token_from, stored_token, stored_cost, index_at}
-use Rattle.mj_model.specs.Tables.{System, Token, Lexeme, HasApartTokens}
+use Rattle.image_format.specs.ImageBytes.{kind_of, number_at, signed_2_at, header_of, all_tokens, section}
+use Rattle.image_format.specs.ImageMeaning.{image_info, image_unknown, info_in, tokens_in, entry_under, image_tables, key_in, lexicon_sections, entries_of_group}
+use Rattle.image_format.specs.declared.layout.InfoForm.{InfoForm}
+use Rattle.image_format.specs.declared.layout.InfoForm.TheVariants as info
+use Rattle.image_format.specs.ImageFaults.{AreInfos}
+use Rattle.image_format.specs.Layouts.{info_form, key_form}
+use Rattle.image_format.specs.OlderSections.{AreEntries, entry_at, own_entries}
+use Rattle.image_format.specs.ImageSections.{AreRanges, IsIndex, StoredRange, range_at, stored_info, no_info, token_from, stored_token, stored_cost, index_at}
+use Rattle.mj_model.specs.Tables.{System, Token, Lexeme, HasDistinctTokens}
 use Rattle.mj_model.proofs.Basics.{all_append, both_parts}
 use Rattle.dict_image.specs.Fitting.{AreBytes, AreFitting, IsFitting}
-use Rattle.image_check.specs.Outlines.{IsImage}
-use Rattle.image_bytes.specs.ImageSections.{range_count}
+use Rattle.dict_image.specs.Validation.Outlines.{IsImage}
+use Rattle.image_format.specs.ImageSections.{range_count}
 use Rattle.dict_image.proofs.CategoryLemmas.{count_of_image}
 use Rattle.dict_image.proofs.FormedLemmas.{few_categories, groups_are, infos_are, is_header, system_of_categories, token_fits, unknown_are}
 use Rattle.dict_image.proofs.RangeLemmas.{in_order}
@@ -134,11 +134,11 @@ found_by ranges code n false test before =
     let less = before.1 in
     (before.0, omega (arith, less), last_range ranges code n ∙ ap (λ (b : Bool). cond b (Some (range_at ranges n)) (find (starts_by code) (reverse (first_ranges ranges n)))) test ∙ before.2)
 
--- of ranges from code point 0 on, one begins at or before each code point
+-- of ranges from code point 0 on, one starts at or before each code point
 found_in : (ranges : List ℕ) (code n : ℕ) → (range_at ranges 0).first ≡ 0 → IsFound ranges code (suc n)
 found_in ranges code zero zeroth =
-    let begun : starts_by code (range_at ranges 0) ≡ true = le-leb (range_at ranges 0).first code (omega (arith, zeroth)) in
-    (0, omega arith, last_range ranges code 0 ∙ ap (λ (b : Bool). cond b (Some (range_at ranges 0)) None) begun)
+    let started : starts_by code (range_at ranges 0) ≡ true = le-leb (range_at ranges 0).first code (omega (arith, zeroth)) in
+    (0, omega arith, last_range ranges code 0 ∙ ap (λ (b : Bool). cond b (Some (range_at ranges 0)) None) started)
 found_in ranges code (suc n) zeroth = found_by ranges code (suc n) (starts_by code (range_at ranges (suc n))) refl (found_in ranges code n zeroth)
 
 first_below : (categories : ℕ) (ranges : List ℕ) (code : ℕ) → categories ≤ 256 → AreRanges categories ranges → (stored_info ranges code).head < categories
@@ -162,7 +162,7 @@ first_of_image bytes code w system = first_in (info_form (header_of bytes).layou
 
 -- ---- categories
 
-apart_by : (bytes : List ℕ) (i : ℕ) (b : Bool) → HasApartTokens (cond b (tokens_in (section bytes 7) (section bytes 8) (section bytes 4) i) [])
+apart_by : (bytes : List ℕ) (i : ℕ) (b : Bool) → HasDistinctTokens (cond b (tokens_in (section bytes 7) (section bytes 8) (section bytes 4) i) [])
 apart_by bytes i true = list_apart (section bytes 7) (section bytes 8) (section bytes 4) i
 apart_by bytes i false = tt
 

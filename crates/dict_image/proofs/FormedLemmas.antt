@@ -1,17 +1,17 @@
--- What a well-formed image gives, test by test.
+-- Consequences of a well-formed image, test by test.
 use Rattle.std.proofs.Common.{◌≡◌, ℕ, ◌*◌, ◌<◌, ◌≤◌, List, [], ◌∷◌, ◌++◌, length, refl, arith, subst}
 use Rattle.std.specs.Prelude.{IsUtf8}
-use Rattle.cell_walk.specs.CellRules.{AreCells}
-use Rattle.image_bytes.specs.ImageBytes.{header_of, kind_of, all_tokens, section}
-use Rattle.image_bytes.specs.declared.layout.KeyForm.{KeyForm}
-use Rattle.image_bytes.specs.declared.layout.KeyForm.TheVariants as key
-use Rattle.image_bytes.specs.ImageFaults.{Test, PassAll, IsHeader, AreCounts, AreInfos, SystemAlone, key_tests, token_tests}
-use Rattle.image_bytes.specs.ImageMeaning.{group_in, key_in, lexicon_sections}
-use Rattle.image_bytes.specs.ImageSections.{AreCosts, AreCategories, IsIndex, stored_cells, stored_token, FitsSizes}
-use Rattle.image_bytes.specs.Layouts.{info_form, key_form}
+use Rattle.mj_model.specs.CellRules.{AreCells}
+use Rattle.image_format.specs.ImageBytes.{header_of, kind_of, all_tokens, section}
+use Rattle.image_format.specs.declared.layout.KeyForm.{KeyForm}
+use Rattle.image_format.specs.declared.layout.KeyForm.TheVariants as key
+use Rattle.image_format.specs.ImageFaults.{Test, PassAll, IsHeader, AreCounts, AreInfos, SystemAlone, key_tests, token_tests}
+use Rattle.image_format.specs.ImageMeaning.{group_in, key_in, lexicon_sections}
+use Rattle.image_format.specs.ImageSections.{AreCosts, AreCategories, IsIndex, stored_cells, stored_token, FitsSizes}
+use Rattle.image_format.specs.Layouts.{info_form, key_form}
 use Rattle.mj_model.specs.Tables.{Kind, System, User}
-use Rattle.dict_image.specs.Held.{HoldTokens}
-use Rattle.image_check.specs.Outlines.{IsImage}
+use Rattle.dict_image.specs.LookupState.{HoldTokens}
+use Rattle.dict_image.specs.Validation.Outlines.{IsImage}
 use Rattle.dict_image.specs.Groups.{AreGroups}
 use Rattle.dict_image.proofs.CellKeys.{AreKeys, groups_of_cells, text_of_cells}
 use Rattle.dict_image.proofs.LexiconLemmas.{HasGroups}
@@ -43,7 +43,7 @@ unfolding IsImage
 unknown_are bytes is w =
     system_rule (kind_of (header_of bytes)) (IsIndex (header_of bytes).categories (header_of bytes).tokens (all_tokens (header_of bytes))) (section bytes 4) is w.1.1.1.1.1.1.1.1.1.1.0
 
--- a dictionary of categories is a system's
+-- only a system dictionary has categories
 kind_by : (kind : Kind) (categories unknown : ℕ) → AreCounts kind categories unknown → 0 < categories → kind ≡ System
 kind_by System categories unknown counts some = refl
 kind_by User categories unknown counts some = absurd (let none = counts.0 in omega (arith, none, some))

@@ -1,12 +1,12 @@
 -- The categories of code points of a well-formed image can be read.
 use Rattle.std.proofs.Common.{◌≡◌, ℕ, ◌≤◌, List, arith}
-use Rattle.image_bytes.specs.declared.layout.InfoForm.{InfoForm}
-use Rattle.image_bytes.specs.declared.layout.InfoForm.TheVariants as info
-use Rattle.image_bytes.specs.ImageBytes.{header_of, kind_of, section}
-use Rattle.image_bytes.specs.ImageFaults.{AreInfos}
-use Rattle.image_bytes.specs.Layouts.{info_form}
+use Rattle.image_format.specs.declared.layout.InfoForm.{InfoForm}
+use Rattle.image_format.specs.declared.layout.InfoForm.TheVariants as info
+use Rattle.image_format.specs.ImageBytes.{header_of, kind_of, section}
+use Rattle.image_format.specs.ImageFaults.{AreInfos}
+use Rattle.image_format.specs.Layouts.{info_form}
 use Rattle.mj_model.specs.Tables.{System}
-use Rattle.image_check.specs.Outlines.{IsImage}
+use Rattle.dict_image.specs.Validation.Outlines.{IsImage}
 use Rattle.dict_image.specs.Infos.{AreReadable}
 use Rattle.dict_image.proofs.FormedLemmas.{few_categories, infos_are}
 use Rattle.dict_image.proofs.RangeLemmas.{in_order}

@@ -2,19 +2,19 @@
 use Rattle.std.proofs.Common.{◌≡◌, ℕ, suc, ◌+◌, ◌*◌, ◌<◌, ◌≤◌, Bool, true, false, cond, List, length, inl, inr, min, slice_index, sym, ap, arith, subst}
 use Rattle.std.proofs.lemmas.Bool.{cases_lt, lt-ltb}
 use Rattle.mj_model.specs.Tables.{System}
-use Rattle.image_bytes.specs.declared.header.Header.{Header}
-use Rattle.image_bytes.specs.ImageBytes.{header_of, kind_of, number_at, section}
-use Rattle.image_bytes.specs.ImageSections.{range_at, range_count}
-use Rattle.image_bytes.specs.Layouts.{info_form}
+use Rattle.image_format.specs.declared.header.Header.{Header}
+use Rattle.image_format.specs.ImageBytes.{header_of, kind_of, number_at, section}
+use Rattle.image_format.specs.ImageSections.{range_at, range_count}
+use Rattle.image_format.specs.Layouts.{info_form}
 use Rattle.dict_image.specs.declared.info_table.InfoTable.{InfoTable}
-use Rattle.image_check.specs.Outlines.{IsImage}
+use Rattle.dict_image.specs.Validation.Outlines.{IsImage}
 use Rattle.dict_image.specs.Infos.{AreReadable}
 use Rattle.dict_image.specs.InfoTables.{AreFirstEntries, IsEntryOf, IsInfoTable, basic_plane, plane_start}
 use Rattle.dict_image.specs.Ranges.{AreInOrder, IsLastUpTo}
 use Rattle.dict_image.proofs.InfoLemmas.{readable_infos}
 use Rattle.dict_image.proofs.RangeLemmas.{info_of_last}
 
--- ---- where ranges begin in the plane
+-- ---- the start of a range in the plane
 
 start_within : (ranges : List ℕ) (i : ℕ) → i < range_count ranges → plane_start ranges i ≡ min (range_at ranges i).first basic_plane
 start_within ranges i within = ap (λ (b : Bool). cond b (min (range_at ranges i).first basic_plane) basic_plane) (lt-ltb i (range_count ranges) within)
@@ -28,19 +28,19 @@ start_in_plane ranges i = no_more _ (range_at ranges i).first
 
 -- ---- a range more
 
--- a code point of the plane from where a range begins on, and before its end, is the range's
+-- a code point of the plane from the start to the end of a range belongs to the range
 of_range : (ranges : List ℕ) (code i : ℕ) → i < range_count ranges → plane_start ranges i ≤ code → code < plane_start ranges (i + 1) → IsLastUpTo ranges code i
 of_range ranges code i within from before =
     let most = start_in_plane ranges (i + 1) in
     let start = start_within ranges i within in
     record {
       within = within;
-      begun = omega (arith, from, before, most, start);
+      started = omega (arith, from, before, most, start);
       next = λ more.
           let e : suc i ≡ i + 1 = omega arith in
-          let behind = start_within ranges (i + 1) (omega (arith, more)) in
+          let following = start_within ranges (i + 1) (omega (arith, more)) in
           let same = ap (λ (k : ℕ). (range_at ranges k).first) e in
-          omega (arith, before, behind, same);
+          omega (arith, before, following, same);
     }
 
 -- a range's entry is that of its code points

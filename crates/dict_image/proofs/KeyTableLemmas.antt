@@ -1,23 +1,23 @@
 -- Looking a key up, by the form of the keys.
 use Rattle.std.proofs.Common.{◌≡◌, ℕ, ◌^◌, ◌≤◌, List, sym, ap, ◌∙◌, arith}
-use Rattle.cell_walk.specs.CellMap.{prefixes_of}
-use Rattle.image_bytes.specs.declared.layout.KeyForm.{KeyForm}
-use Rattle.image_bytes.specs.declared.layout.KeyForm.TheVariants as key
-use Rattle.image_bytes.specs.ImageBytes.{header_of}
-use Rattle.image_bytes.specs.ImageSections.{stored_cells}
+use Rattle.mj_model.specs.CellMap.{prefixes_of}
+use Rattle.image_format.specs.declared.layout.KeyForm.{KeyForm}
+use Rattle.image_format.specs.declared.layout.KeyForm.TheVariants as key
+use Rattle.image_format.specs.ImageBytes.{header_of}
+use Rattle.image_format.specs.ImageSections.{stored_cells}
 use Rattle.dict_image.specs.Groups.{hits_in}
-use Rattle.image_check.specs.Outlines.{IsImage}
+use Rattle.dict_image.specs.Validation.Outlines.{IsImage}
 use Rattle.dict_image.specs.KeyLists.{KeyList}
-use Rattle.dict_image.specs.ListedHits.{listed_hits_behind}
+use Rattle.dict_image.specs.ListedHits.{listed_hits_after}
 use Rattle.dict_image.proofs.FormedLemmas.{is_header}
 use Rattle.dict_image.proofs.ListedHitLemmas.{all_hits}
 
 abbrev list_of : ℕ → List ℕ → KeyList
 list_of groups bytes = record { bytes = bytes; count = groups }
 
-pub hits_of_list : (form : KeyForm) (groups : ℕ) (bytes text : List ℕ) (list : KeyList) → form ≡ key.Listed → list ≡ list_of groups bytes → listed_hits_behind list text 0 ≡ hits_in form groups bytes text
+pub hits_of_list : (form : KeyForm) (groups : ℕ) (bytes text : List ℕ) (list : KeyList) → form ≡ key.Listed → list ≡ list_of groups bytes → listed_hits_after list text 0 ≡ hits_in form groups bytes text
 hits_of_list form groups bytes text list is same =
-    ap (λ (l : KeyList). listed_hits_behind l text 0) same ∙ all_hits (list_of groups bytes) text ∙ ap (λ (f : KeyForm). hits_in f groups bytes text) (sym is)
+    ap (λ (l : KeyList). listed_hits_after l text 0) same ∙ all_hits (list_of groups bytes) text ∙ ap (λ (f : KeyForm). hits_in f groups bytes text) (sym is)
 
 pub hits_of_cells : (form : KeyForm) (groups : ℕ) (bytes text : List ℕ) → form ≡ key.Cells → prefixes_of (stored_cells bytes) text ≡ hits_in form groups bytes text
 unfolding prefixes_of

@@ -9,7 +9,7 @@ use Rattle.std.proofs.lemmas.List.{map-append}
 use Rattle.std.proofs.lemmas.List.Elements.{filter-append}
 use Rattle.std.proofs.lemmas.Option.{same_Some, none-some}
 use Rattle.std.proofs.lemmas.Slice.Eq.{bytes_eq-Decides}
-use Rattle.image_bytes.specs.ImageMeaning.{tokens_in, entry_under, LexiconSections, entries_of_group, group_in, key_in, lexicon_in, entries_under}
+use Rattle.image_format.specs.ImageMeaning.{tokens_in, entry_under, LexiconSections, entries_of_group, group_in, key_in, lexicon_in, entries_under}
 use Rattle.mj_model.specs.Tables.{Token, Lexeme}
 use Rattle.dict_image.specs.Groups.{AreGroups}
 

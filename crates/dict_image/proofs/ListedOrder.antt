@@ -1,4 +1,4 @@
--- Listed keys rise, so no two of them are the same, and the number of a key is the one number whose key it is.
+-- Listed keys increase, so no two of them are equal, and each key has exactly one number.
 use Rattle.std.proofs.Common.{◌≡◌, ◌≢◌, ℕ, zero, suc, ◌+◌, ◌-◌, ◌<◌, ◌≤◌, Bool, true, false, cond, List, [], ◌∷◌, ◌++◌, Some, None, inl, inr, sym, ap, ◌∙◌, refl, arith, subst}
 use Rattle.std.specs.Prelude.{IsUtf8}
 use Rattle.std.specs.Cmp.Lexicographic.{slice_cmp, nat_list_cmp_total}
@@ -12,7 +12,7 @@ use Rattle.std.specs.Cmp.{nat_cmp_is}
 use Rattle.std.proofs.lemmas.Map.Text.{is_eq-slice_cmp}
 use Rattle.std.proofs.lemmas.Option.{same_Some}
 use Rattle.std.proofs.lemmas.Slice.Eq.{bytes_eq-Decides}
-use Rattle.image_bytes.specs.OlderSections.{IsListedKey, listed_key, listed_number}
+use Rattle.image_format.specs.OlderSections.{IsListedKey, listed_key, listed_number}
 use Rattle.dict_image.specs.Groups.{AreGroups}
 
 -- ---- the first number that passes
@@ -22,7 +22,7 @@ by_test : (P : ℕ → Bool) (a n g : ℕ) (b : Bool) → P a ≡ b → cond b (
 by_test P a n g true test h later = let e = same_Some a g h in (omega (arith, e), omega (arith, e), subst (λ (i : ℕ). P i ≡ true) e test)
 by_test P a n g false test h later = let r = later h in let low = r.0 in let high = r.1 in (omega (arith, low), omega (arith, high), r.2)
 
--- a number that is found lies among them, and passes
+-- a number that is found is among them, and passes
 pub found_number : (P : ℕ → Bool) (a n g : ℕ) → find P (range_with_len a n) ≡ Some g → (a ≤ g) × (g < a + n) × (P g ≡ true)
 found_number P a zero g h = absurd (cc)
 found_number P a (suc n) g h = by_test P a n g (P a) refl h (found_number P (a + 1) n g)
@@ -37,7 +37,7 @@ first_number P a (suc n) g low high passes before = elim (cases_eq a g) [
       ∙ first_number P (a + 1) n g (omega (arith, low, other)) (omega (arith, high)) passes (λ i from below. before i (omega (arith, from)) below)
 ]
 
--- none is found where none passes
+-- none is found if none passes
 pub no_number : (P : ℕ → Bool) (a n : ℕ) → ((i : ℕ) → i < a + n → P i ≡ false) → find P (range_with_len a n) ≡ None
 no_number P a zero none = refl
 no_number P a (suc n) none =
@@ -55,7 +55,7 @@ before_is_other xs ys less = sym (is_eq-slice_cmp xs ys) ∙ ap is_eq less
 -- ---- the keys of a list
 
 module _ (groups : ℕ) (keys : List ℕ) (are : (i : ℕ) → i < groups → IsListedKey keys i) where
-  -- a later key stands above
+  -- a later key is greater
   pub key_rises : (i n : ℕ) → i + suc n < groups → order (listed_key keys i) (listed_key keys (i + suc n)) ≡ Less
   key_rises i zero within =
       let e : i + suc zero ≡ suc i = omega arith in
@@ -98,14 +98,14 @@ pub not_less : (xs ys : List ℕ) (o : Ordering) → o ≡ order xs ys → is_lt
 not_less xs ys o is h less = let t : is_lt o ≡ true = ap is_lt (is ∙ less) in absurd (cc)
 
 module _ (groups : ℕ) (keys : List ℕ) (are : (i : ℕ) → i < groups → IsListedKey keys i) (text : List ℕ) where
-  -- before a key that stands below a text all do
+  -- all keys before a key that is less than a text are less than the text
   pub below_up_to : (i j : ℕ) → i ≤ j → j < groups → order (listed_key keys j) text ≡ Less → order (listed_key keys i) text ≡ Less
   below_up_to i j up within below = elim (cases_eq i j) [
     | inl same ↦ subst (λ (k : ℕ). order (listed_key keys k) text ≡ Less) (sym same) below
     | inr other ↦ nat_list_cmp_total.trans (listed_key keys i) (listed_key keys j) text (key_above groups keys are i j (omega (arith, up, other)) within) below
   ]
 
-  -- the number of the text, where the first key not below it is the text
+  -- the number of the text, if the first key not less than it is the text
   pub number_here : (at : ℕ) → at < groups → ((i : ℕ) → i < at → order (listed_key keys i) text ≡ Less) → listed_key keys at ≡ text → listed_number groups keys text ≡ Some at
   number_here at within below is =
       first_number (λ (i : ℕ). bytes_eq (listed_key keys i) text) 0 groups at (omega arith) (omega (arith, within)) ((bytes_eq-Decides (listed_key keys at) text).1 is)
@@ -123,17 +123,17 @@ module _ (groups : ℕ) (keys : List ℕ) (are : (i : ℕ) → i < groups → Is
         let other = before_is_other (listed_key keys i) text (below i before) in
         let same : bytes_eq (listed_key keys i) text ≡ true = (bytes_eq-Decides (listed_key keys i) text).1 is in
         absurd (cc)
-    | inr (inr behind) ↦ later_is_other at i behind within (others at (omega arith) (omega (arith, behind, within))) is
+    | inr (inr following) ↦ later_is_other at i following within (others at (omega arith) (omega (arith, following, within))) is
   ]
 
-  -- no key is the text, where the first one not below it is another one or there is none
+  -- no key is the text, if the first key not less than it is another one or there is none
   pub number_nowhere : (at : ℕ) → ((i : ℕ) → i < at → order (listed_key keys i) text ≡ Less) → ((i : ℕ) → at ≤ i → i < groups → order (listed_key keys i) text ≢ Less) → (at < groups → listed_key keys at ≡ text → ⊥)
       → listed_number groups keys text ≡ None
   number_nowhere at below others not_here =
       no_number (λ (i : ℕ). bytes_eq (listed_key keys i) text) 0 groups
       (λ i within. false_from_ne_true (bytes_eq (listed_key keys i) text) (λ h. other_here at i below others not_here (omega (arith, within)) ((bytes_eq-Decides (listed_key keys i) text).0 h)))
 
--- a longer text does not stand below
+-- a longer text is not less
 pub longer_not_below : (front more : List ℕ) → order (front ++ more) front ≢ Less
 longer_not_below [] [] = λ e. absurd (cc)
 longer_not_below [] (b ∷ more) = λ e. absurd (cc)

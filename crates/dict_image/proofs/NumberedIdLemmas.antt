@@ -25,9 +25,9 @@ earlier_or_last [] id (suc i) x is = absurd (cc)
 earlier_or_last (y ∷ ids) id zero x is = inl is
 earlier_or_last (y ∷ ids) id (suc i) x is = elim (earlier_or_last ids id i x is) [ inl e ↦ inl e | inr l ↦ inr (ap suc l.0, l.1) ]
 
--- ---- and its number
+-- ---- its number
 
--- an id whose number is not among those that are given gets the next one
+-- an id without a valid number gets the next one
 pub numbered_more : (ids numbers : List ℕ) (id number : ℕ) → AreNumbered ids numbers → length ids < NUMBERED_MAX → slice_get numbers id ≡ Some number → length ids ≤ number
     → AreNumbered (ids ++ id ∷ []) (set numbers id (length ids))
 numbered_more ids numbers id number are room at past =

@@ -1,5 +1,5 @@
--- The tokens of an index's lists, one list behind another, stand in the order of their numbers. So the one with a number is the token of
--- that number, where it is among them.
+-- The tokens of an index's lists, one list after another, are in the order of their numbers. So the
+-- one with a number is the token of that number, if it is among them.
 use Rattle.std.proofs.Common.{◌≡◌, ℕ, zero, suc, ◌+◌, ◌-◌, ◌<◌, ◌≤◌, Bool, true, false, cond, eqb, List, [], ◌∷◌, ◌++◌, length, map, Option, Some, None, sym, ap, ◌∙◌, refl, arith}
 use Rattle.std.specs.Prelude.{find, ◌==◌, slice_get}
 use Rattle.std.specs.List.{flat_map, range_with_len}
@@ -8,19 +8,19 @@ use Rattle.std.proofs.lemmas.List.{map-append}
 use Rattle.std.proofs.lemmas.List.Concat.{flat_map-append}
 use Rattle.std.proofs.lemmas.List.FromFn.{get_or-map-range_with_len, length-map-range_with_len}
 use Rattle.std.proofs.lemmas.Option.{same_Some, slice_get-get_or, slice_get_within}
-use Rattle.image_bytes.specs.ImageBytes.{header_of, section, all_tokens, kind_of}
-use Rattle.image_bytes.specs.ImageFaults.{AreCounts}
-use Rattle.image_bytes.specs.ImageMeaning.{LexiconSections, entries_of_group, image_tables, image_token, image_unknown, key_in, lexicon_sections, tokens_in}
-use Rattle.image_bytes.specs.ImageSections.{IsIndex, index_at, token_from}
+use Rattle.image_format.specs.ImageBytes.{header_of, section, all_tokens, kind_of}
+use Rattle.image_format.specs.ImageFaults.{AreCounts}
+use Rattle.image_format.specs.ImageMeaning.{LexiconSections, entries_of_group, image_tables, image_token, image_unknown, key_in, lexicon_sections, tokens_in}
+use Rattle.image_format.specs.ImageSections.{IsIndex, index_at, token_from}
 use Rattle.mj_model.specs.Lists.{up_to}
 use Rattle.mj_model.specs.Tables.{Lexeme, Token, Kind, System, User}
-use Rattle.image_check.specs.Outlines.{IsImage}
+use Rattle.dict_image.specs.Validation.Outlines.{IsImage}
 use Rattle.dict_image.specs.Numbered.{numbered_tokens, unknown_tokens}
 use Rattle.dict_image.proofs.CategoryLemmas.{count_of_image}
 use Rattle.dict_image.proofs.FormedLemmas.{groups_are, is_header, unknown_are}
 use Rattle.dict_image.proofs.NumberLemmas.{index_falls_not, range_joined, tokens_named}
 
--- ---- lists one behind another
+-- ---- one list after another
 
 pub lists_joined : (tokens features : List ℕ) (lists low high : ℕ) (index : List ℕ) (a n : ℕ) → IsIndex lists low high index → a + n ≤ lists
     → flat_map (tokens_in tokens features index) (range_with_len a n) ≡ map (token_from tokens features) (range_with_len (index_at index a) (index_at index (a + n) - index_at index a))
@@ -36,7 +36,7 @@ lists_joined tokens features lists low high index a (suc n) is within =
     let end = index_at index (a + suc n) in
     let one : a + 1 ≡ suc a = omega arith in
     let all : a + 1 + n ≡ a + suc n = omega arith in
-    let behind : flat_map (tokens_in tokens features index) (range_with_len (a + 1) n) ≡ map f (range_with_len next (end - next)) =
+    let following : flat_map (tokens_in tokens features index) (range_with_len (a + 1) n) ≡ map f (range_with_len next (end - next)) =
     lists_joined tokens features lists low high index (a + 1) n is (omega (arith, within)) ∙ ap (λ (b : ℕ). map f (range_with_len (index_at index b) (index_at index (a + 1 + n) - index_at index b))) one
     ∙ ap (λ (b : ℕ). map f (range_with_len next (index_at index b - next))) all in
     let up = is.rising a (omega (arith, within)) in
@@ -44,11 +44,11 @@ lists_joined tokens features lists low high index a (suc n) is within =
     let same : index_at index (suc a + n) ≡ end = ap (index_at index) (let e : suc a + n ≡ a + suc n = omega arith in e) in
     let joined : end - start ≡ (next - start) + (end - next) = omega (arith, up, on, same) in
     let middle : start + (next - start) ≡ next = omega (arith, up) in
-    ap (λ (ts : List Token). map f (range_with_len start (next - start)) ++ ts) behind
+    ap (λ (ts : List Token). map f (range_with_len start (next - start)) ++ ts) following
     ∙ sym (map-append f (range_with_len start (next - start)) (range_with_len next (end - next)))
     ∙ ap (map f) (sym (ap (range_with_len start) joined ∙ range_joined start (next - start) (end - next) ∙ ap (λ (b : ℕ). range_with_len start (next - start) ++ range_with_len b (end - next)) middle))
 
--- an index whose lists share out the tokens from one number to another
+-- an index whose lists divide the tokens from one number to another
 all_lists : (tokens features : List ℕ) (lists low high : ℕ) (index : List ℕ) → IsIndex lists low high index
     → flat_map (tokens_in tokens features index) (range_with_len 0 lists) ≡ map (token_from tokens features) (range_with_len low (high - low))
 all_lists tokens features lists low high index is =
@@ -129,7 +129,7 @@ all_numbered bytes w =
 pub numbered_count : (bytes : List ℕ) → IsImage bytes → length (numbered_tokens (image_tables bytes)) ≡ all_tokens (header_of bytes)
 numbered_count bytes w = ap length (all_numbered bytes w) ∙ length-map-range_with_len (image_token bytes) 0 (all_tokens (header_of bytes))
 
--- an entry stands at the place of its number
+-- each entry is at the position of its number
 pub numbered_at : (bytes : List ℕ) (i : ℕ) → IsImage bytes → i < all_tokens (header_of bytes) → slice_get (numbered_tokens (image_tables bytes)) i ≡ Some (image_token bytes i)
 numbered_at bytes i w less =
     let n = all_tokens (header_of bytes) in
@@ -152,8 +152,8 @@ abbrev pub has_number : ℕ → Token → Bool
 has_number i t = t.number == i
 
 found_by : (bytes : List ℕ) (a i : ℕ) (rest : Option Token) (b : Bool) → eqb a i ≡ b → ((a ≡ i → ⊥) → rest ≡ Some (image_token bytes i)) → cond b (Some (image_token bytes a)) rest ≡ Some (image_token bytes i)
-found_by bytes a i rest true e behind = ap (λ (k : ℕ). Some (image_token bytes k)) (eqb-true a i e)
-found_by bytes a i rest false e behind = behind (eqb-false a i e)
+found_by bytes a i rest true e following = ap (λ (k : ℕ). Some (image_token bytes k)) (eqb-true a i e)
+found_by bytes a i rest false e following = following (eqb-false a i e)
 
 found_at : (bytes : List ℕ) (a n i : ℕ) → a ≤ i → i < a + n → find (has_number i) (map (image_token bytes) (range_with_len a n)) ≡ Some (image_token bytes i)
 found_at bytes a zero i low less = absurd (omega (arith, low, less))
@@ -162,8 +162,8 @@ found_at bytes a (suc n) i low less =
     (λ other. found_at bytes (a + 1) n i (omega (arith, low, other)) (omega (arith, less)))
 
 none_by : (bytes : List ℕ) (a i : ℕ) (rest : Option Token) (b : Bool) → eqb a i ≡ b → (a ≡ i → ⊥) → rest ≡ None → cond b (Some (image_token bytes a)) rest ≡ None
-none_by bytes a i rest true e other behind = absurd (other (eqb-true a i e))
-none_by bytes a i rest false e other behind = behind
+none_by bytes a i rest true e other following = absurd (other (eqb-true a i e))
+none_by bytes a i rest false e other following = following
 
 none_at : (bytes : List ℕ) (a n i : ℕ) → (a ≤ i → i < a + n → ⊥) → find (has_number i) (map (image_token bytes) (range_with_len a n)) ≡ None
 none_at bytes a zero i outside = refl

@@ -1,10 +1,10 @@
--- The keys of a lexicon that begin a text, with their entries.
+-- The keys of a lexicon that are prefixes of a text, with their entries.
 use Rattle.std.proofs.Common.{◌≡◌, ℕ, suc, ◌<◌, Bool, true, cond, List, [], ◌∷◌, map, length, take, Option, Some, None, sym, ap, ◌∙◌, refl}
 use Rattle.std.specs.List.{AllByRecursion, filter, filter_map, cons_option}
 use Rattle.std.specs.Option.{option_map}
 use Rattle.std.proofs.lemmas.Bool.{lt-ltb}
-use Rattle.image_bytes.specs.ImageMeaning.{tokens_in, LexiconSections, group_in, lexicon_in, entries_under}
-use Rattle.image_bytes.specs.ImageSections.{index_at}
+use Rattle.image_format.specs.ImageMeaning.{tokens_in, LexiconSections, group_in, lexicon_in, entries_under}
+use Rattle.image_format.specs.ImageSections.{index_at}
 use Rattle.mj_model.specs.Lists.{up_to}
 use Rattle.mj_model.specs.Tables.{Token}
 use Rattle.dict_image.specs.Groups.{hit_in, hits_in}

@@ -1,4 +1,4 @@
--- Iterators that show the list of what is left end.
+-- Iterators over the list of remaining items terminate.
 use Rattle.std.proofs.Common.{◌≡◌, suc, List, length, Option, Some, None, ap, arith}
 use Rattle.std.specs.Iterator.{MakesProgress, YieldsFirstBy, item_count}
 

@@ -1,4 +1,4 @@
--- The last range that begins at or before a code point.
+-- The last range that starts at or before a code point.
 use Rattle.std.proofs.Common.{◌≡◌, ℕ, zero, suc, ◌+◌, ◌-◌, ◌<◌, ◌≤◌, Bool, true, false, cond, leb, List, [], ◌∷◌, ◌++◌, map, reverse, length, Option, Some, ap, ◌∙◌, arith}
 use Rattle.std.specs.List.{find, range_with_len}
 use Rattle.std.specs.Option.{option_map_or}
@@ -6,11 +6,11 @@ use Rattle.std.proofs.lemmas.Bool.{le-leb, lt-leb}
 use Rattle.std.proofs.lemmas.List.{reverse-append}
 use Rattle.std.proofs.lemmas.Nat.{le-div}
 use Rattle.std.proofs.lemmas.List.FromFn.{map-range_with_len_more}
-use Rattle.image_bytes.specs.ImageSections.{AreRanges, StoredRange, range_at, stored_info, no_info}
+use Rattle.image_format.specs.ImageSections.{AreRanges, StoredRange, range_at, stored_info, no_info}
 use Rattle.dict_image.specs.Ranges.{AreInOrder, IsLastUpTo}
-use Rattle.image_bytes.specs.ImageSections.{range_count}
+use Rattle.image_format.specs.ImageSections.{range_count}
 
--- a later range begins no earlier
+-- a later range starts no earlier
 begins_after : (ranges : List ℕ) (i n : ℕ) → AreInOrder ranges → i + n < range_count ranges → (range_at ranges i).first ≤ (range_at ranges (i + n)).first
 begins_after ranges i zero order within =
     let e : i + 0 ≡ i = omega arith in
@@ -23,18 +23,19 @@ begins_after ranges i (suc n) order within =
     let same = ap (λ (k : ℕ). (range_at ranges k).first) e in
     omega (arith, before, step, same)
 
--- of all ranges before a number behind it, it is the last one that begins at or before the code point
+-- among the ranges up to a number after it, it is the last one that starts at or before the code
+-- point
 found_below : (ranges : List ℕ) (code i n : ℕ) → AreInOrder ranges → IsLastUpTo ranges code i → i + suc n ≤ range_count ranges
     → find (λ (range : StoredRange). leb range.first code) (reverse (map (range_at ranges) (range_with_len 0 (i + suc n)))) ≡ Some (range_at ranges i)
 found_below ranges code i zero order is within =
     let e : i + suc 0 ≡ i + 1 = omega arith in
     let all : map (range_at ranges) (range_with_len 0 (i + suc 0)) ≡ map (range_at ranges) (range_with_len 0 i) ++ range_at ranges i ∷ [] =
     ap (λ (k : ℕ). map (range_at ranges) (range_with_len 0 k)) e ∙ map-range_with_len_more (range_at ranges) 0 i i (omega arith) in
-    let begun : leb (range_at ranges i).first code ≡ true = le-leb (range_at ranges i).first code is.begun in
+    let started : leb (range_at ranges i).first code ≡ true = le-leb (range_at ranges i).first code is.started in
     let rest = find (λ (range : StoredRange). leb range.first code) (reverse (map (range_at ranges) (range_with_len 0 i))) in
     ap (λ (rs : List StoredRange). find (λ (range : StoredRange). leb range.first code) (reverse rs)) all
     ∙ ap (find (λ (range : StoredRange). leb range.first code)) (reverse-append (map (range_at ranges) (range_with_len 0 i)) (range_at ranges i ∷ []))
-    ∙ ap (λ (b : Bool). cond b (Some (range_at ranges i)) rest) begun
+    ∙ ap (λ (b : Bool). cond b (Some (range_at ranges i)) rest) started
 found_below ranges code i (suc n) order is within =
     let last = i + suc n in
     let e : i + suc (suc n) ≡ last + 1 = omega arith in
@@ -61,7 +62,7 @@ info_of_last ranges code i order is =
     ap (λ (k : ℕ). option_map_or (λ (range : StoredRange). range.info) (find (λ (range : StoredRange). leb range.first code) (reverse (map (range_at ranges) (range_with_len 0 k)))) no_info) e
     ∙ ap (λ (found : Option StoredRange). option_map_or (λ (range : StoredRange). range.info) found no_info) (found_below ranges code i (range_count ranges - suc i) order is (omega (arith, w)))
 
--- ranges of so many categories stand in their order
+-- ranges of so many categories are in order
 pub in_order : (categories : ℕ) (ranges : List ℕ) → categories ≤ 256 → AreRanges categories ranges → AreInOrder ranges
 in_order categories ranges few are =
     let some = are.some in

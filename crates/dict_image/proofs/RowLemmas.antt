@@ -46,7 +46,7 @@ cost_more cost count old rows grown =
 pub next_row : (row width : ℕ) → (row + 1) * width ≡ row * width + width
 next_row row width = add-mul row 1 width ∙ ap (λ (n : ℕ). row * width + n) (one-mul width)
 
--- the costs of a row stand before those of a later one
+-- the costs of a row precede those of a later one
 pub in_rows : (row end width column : ℕ) → row < end → column < width → row * width + column < end * width
 in_rows row end width column before within =
     let up = mul-le-mul_right {m = row + 1} {n = end} width (omega (arith, before)) in

@@ -1,4 +1,4 @@
--- One item of a list is set, and the others stay.
+-- One item of a list is set, and the others do not change.
 use Rattle.std.proofs.Common.{◌≡◌, ℕ, ◌<◌, List, set, length, Some, inl, inr, sym, ap, ◌∙◌, arith, slice_get}
 use Rattle.std.proofs.lemmas.Bool.{cases_lt}
 use Rattle.std.proofs.lemmas.List.{length-set, get_or-set_same, get_or-set_other}

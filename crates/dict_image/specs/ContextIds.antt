@@ -1,4 +1,4 @@
--- The context ids between which connection costs are asked for most.
+-- The context ids that a text uses.
 use Rattle.std.specs.Prelude.{◌≡◌}
 use Rattle.mj_model.specs.declared.matrix_sizes.MatrixSizes.{MatrixSizes}
 use Rattle.dict_image.specs.declared.context_ids.ContextIds.{ContextIds}
@@ -8,7 +8,7 @@ pub record AreOfSizes (sizes : MatrixSizes) (ids : ContextIds) : Type 0 where
   pub lefts : ids.lefts.size ≡ sizes.left
   pub rights : ids.rights.size ≡ sizes.right
 
--- ids of a dictionary are followed by ids of one with the same sizes
+-- the sizes are unchanged
 pub record HaveSameSizes (old new : ContextIds) : Type 0 where
   pub lefts : new.lefts.size ≡ old.lefts.size
   pub rights : new.rights.size ≡ old.rights.size

@@ -1,11 +1,11 @@
 -- Sections of the categories of code points that can be read.
 use Rattle.std.specs.Prelude.{ℕ, ◌<◌, List}
-use Rattle.image_bytes.specs.declared.layout.InfoForm.{InfoForm}
-use Rattle.image_bytes.specs.declared.layout.InfoForm.TheVariants as info
-use Rattle.image_bytes.specs.OlderSections.{AreFilled, entry_at, own_entries}
+use Rattle.image_format.specs.declared.layout.InfoForm.{InfoForm}
+use Rattle.image_format.specs.declared.layout.InfoForm.TheVariants as info
+use Rattle.image_format.specs.OlderSections.{AreFilled, entry_at, own_entries}
 use Rattle.dict_image.specs.Ranges.{AreInOrder}
 
--- an entry of 4 bytes for each code point up to U+FFFE, and the first category of each is of a byte
+-- an entry of 4 bytes for each code point up to U+FFFE, whose first category fits a byte
 pub record AreWhole (entries : List ℕ) : Type 0 where
   pub fill : AreFilled entries
   pub short : (i : ℕ) → i < own_entries → (entry_at entries i).head < 256

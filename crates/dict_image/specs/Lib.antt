@@ -1,5 +1,6 @@
-pub mod Seen
-pub mod Held
+pub mod Validation
+pub mod Views
+pub mod LookupState
 pub mod Tokens
 pub mod Ranges
 pub mod Infos
@@ -8,7 +9,7 @@ pub mod Rows
 pub mod Columns
 pub mod NumberedIds
 pub mod ContextIds
-pub mod NearCosts
+pub mod CostCache
 pub mod CostTables
 pub mod CostRows
 pub mod Categories

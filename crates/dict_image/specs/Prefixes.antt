@@ -1,28 +1,30 @@
--- The surfaces of a lexicon that begin a text.
+-- The surfaces of a lexicon that are prefixes of a text.
 use Rattle.std.specs.Prelude.{ℕ, nat_lt, Bool, List, length, map, filter, take}
-use Rattle.cell_walk.specs.CellMap.{Cell}
-use Rattle.image_bytes.specs.ImageMeaning.{LexiconSections, entries_under, tokens_in}
+use Rattle.mj_model.specs.CellMap.{Cell}
+use Rattle.image_format.specs.ImageMeaning.{LexiconSections, entries_under, tokens_in}
 use Rattle.mj_model.specs.Lists.{up_to}
 use Rattle.mj_model.specs.Tables.{Token, Lexeme}
 
--- the first n bytes of a text are a surface
+-- a prefix that is a surface: it has entries
 abbrev pub has_entries : ℕ × List Token → Bool
 has_entries prefix = nat_lt 0 (length prefix.1)
 
--- the first n bytes of a text, with their entries
+-- the first `n` bytes of a text, with their entries
 abbrev pub prefix_at : List ℕ → List Lexeme → ℕ → ℕ × List Token
 prefix_at text lexicon n = (n, entries_under (take n text) lexicon)
 
--- the surfaces that begin a text, the shortest first: their lengths in bytes, and their entries
+-- the surfaces that are prefixes of a text, the shortest first: their lengths in bytes, and their
+-- entries
 abbrev pub prefixes_in : List ℕ → List Lexeme → List (ℕ × List Token)
 prefixes_in text lexicon = filter has_entries (map (prefix_at text lexicon) (up_to (length text)))
 
--- a hit of a key: its length in bytes, and the tokens of its group
+-- the hit of a key: its length in bytes, and the tokens of its group
 abbrev pub prefix_in : LexiconSections → ℕ × ℕ → ℕ × List Token
 prefix_in s hit = (hit.0, tokens_in s.tokens s.features s.groups hit.1)
 
--- what contracts see of the iterator over them: those that are left, the cells of the keys, the text, and how many bytes of it were gone over
-pub record PrefixesSeen : Type 0 where
+-- the iterator as contracts see it: the remaining prefixes, the cells of the double array, the
+-- text, and the number of bytes that were walked
+pub record PrefixesView : Type 0 where
   pub prefixes : List (ℕ × List Token)
   pub cells : List Cell
   pub text : List ℕ

@@ -1,12 +1,12 @@
--- Costs in rows of one width.
+-- Costs in rows of equal width.
 use Rattle.std.specs.Prelude.{◌≡◌, ℕ, ℤ, ◌+◌, ◌*◌, ◌<◌, Some, List, length, slice_get}
 
--- the rows before this one: each has a cost in each column
+-- rows before `end`, each with a cost in each column
 pub record AreRows (cost : ℕ → ℕ → ℤ) (width end : ℕ) (rows : List ℤ) : Type 0 where
   pub many : length rows ≡ end * width
   pub each : (row column : ℕ) → row < end → column < width → slice_get rows (row * width + column) ≡ Some (cost row column)
 
--- rows grew by so many costs
+-- `count` costs were appended to the rows
 pub record GrowsByRow (cost : ℕ → ℤ) (count : ℕ) (old new : List ℤ) : Type 0 where
   pub many : length new ≡ length old + count
   pub kept : (i : ℕ) → i < length old → slice_get new i ≡ slice_get old i

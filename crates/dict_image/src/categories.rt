@@ -1,44 +1,44 @@
-//! The section of categories.
+//! Access to the section of character categories.
 ghost use Rattle.std.specs.Prelude.{◌≡◌, ◌+◌, length, IfOk, IsUtf8};
-ghost use Rattle.image_bytes.specs.ImageSections.{first_category};
-ghost use Rattle.dict_image.specs.Categories.{HasFirst, HasFront, bytes_from, listed_categories};
-ghost use Rattle.image_check.specs.CheckedCategories.{behind_first};
+ghost use Rattle.image_format.specs.ImageSections.{first_category};
+ghost use Rattle.dict_image.specs.Categories.{HasFirst, HasCategoriesFirst, bytes_from, listed_categories};
+ghost use Rattle.dict_image.specs.Validation.CheckedCategories.{after_first_category};
 
 use crate::entry_ref::text;
 use mj_model::Category;
 use std::alloc::{AllocError, Global};
 
-/// The first categories of a section, so many of them. They take 3 bytes each.
+/// Returns the first `count` categories of a section. Allocates 3 bytes for each.
 pub(crate) fn categories_of(
     alloc: Global,
     categories: &[u8],
     count: u32,
 ) -> Result<Vec<Category>, AllocError>
-    requires { HasFront count categories.now }
+    requires { HasCategoriesFirst count categories.now }
     ensures { IfOk result (λ list. list.items ≡ listed_categories count categories.now) }
 {
     let mut list = Vec::with_capacity(alloc, count as usize)?;
     let mut rest = categories;
     for _ in 0..count {
         list.push(category_of(rest))?;
-        rest = behind_category(rest);
+        rest = after_category(rest);
     }
     Ok(list)
 }
 
-/// The bytes of a section from category `i` on.
+/// Returns the bytes of a section from category `i` on.
 pub(crate) fn from_category(categories: &[u8], i: usize) -> &[u8]
-    requires { HasFront i categories.now }
+    requires { HasCategoriesFirst i categories.now }
     ensures { result.now ≡ bytes_from i categories.now }
 {
     let mut rest = categories;
     for _ in 0..i {
-        rest = behind_category(rest);
+        rest = after_category(rest);
     }
     rest
 }
 
-/// The first category.
+/// Returns the category at the start of the bytes.
 pub(crate) fn category_of(categories: &[u8]) -> Category
     requires { HasFirst categories.now }
     ensures { result ≡ (first_category categories.now).category }
@@ -50,7 +50,7 @@ pub(crate) fn category_of(categories: &[u8]) -> Category
     }
 }
 
-/// The name of the first category.
+/// Returns the name of the category at the start of the bytes.
 pub(crate) fn name_of(categories: &[u8]) -> &str
     requires first { HasFirst categories.now }
     requires text { IsUtf8 (first_category categories.now).name }
@@ -60,10 +60,10 @@ pub(crate) fn name_of(categories: &[u8]) -> &str
     text(&categories[4..4 + length])
 }
 
-/// The bytes behind the first category.
-fn behind_category(categories: &[u8]) -> &[u8]
+/// Returns the bytes after the category at the start.
+fn after_category(categories: &[u8]) -> &[u8]
     requires { HasFirst categories.now }
-    ensures { result.now ≡ behind_first categories.now }
+    ensures { result.now ≡ after_first_category categories.now }
 {
     let name = categories[3] as usize;
     &categories[4 + name..]

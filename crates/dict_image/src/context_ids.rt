@@ -1,21 +1,23 @@
-//! The context ids between which connection costs are asked for most.
+//! The context ids that a text uses, whose connection costs are worth caching.
 ghost use Rattle.std.specs.Prelude.{IfOk, OnOk};
 ghost use Rattle.dict_image.specs.ContextIds.{AreOfSizes, HaveSameSizes};
-ghost use Rattle.dict_image.specs.NumberedIds.{IsNoted};
+ghost use Rattle.dict_image.specs.NumberedIds.{IsAdded};
 
 use crate::numbered_ids::NumberedIds;
 use mj_model::MatrixSizes;
 use std::alloc::{AllocError, Global};
 
-/// Left ids and right ids of one dictionary, each in the order in which they were noted.
+/// Left ids and right ids of one dictionary, each in the order in which they were added.
 #[derive(Debug, Drop)]
 pub struct ContextIds {
+    /// The left ids.
     pub lefts: NumberedIds,
+    /// The right ids.
     pub rights: NumberedIds,
 }
 
 impl ContextIds {
-    /// None yet, of a dictionary with these sizes of its connection table.
+    /// Returns an empty collection for a dictionary with a connection table of these sizes.
     pub fn new(alloc: Global, sizes: MatrixSizes) -> Result<ContextIds, AllocError>
         ensures { IfOk result (AreOfSizes sizes) }
     {
@@ -24,13 +26,13 @@ impl ContextIds {
         Ok(ContextIds { lefts, rights })
     }
 
-    /// Numbers the ids of a word, if they have no numbers yet.
-    pub fn note(&mut self, left: u16, right: u16) -> Result<(), AllocError>
+    /// Adds the left id and the right id of a word, unless they were added before.
+    pub fn add(&mut self, left: u16, right: u16) -> Result<(), AllocError>
         ensures sizes { HaveSameSizes self.old self.new }
-        ensures left { OnOk result (IsNoted self.old.lefts left self.new.lefts) }
-        ensures right { OnOk result (IsNoted self.old.rights right self.new.rights) }
+        ensures left { OnOk result (IsAdded self.old.lefts left self.new.lefts) }
+        ensures right { OnOk result (IsAdded self.old.rights right self.new.rights) }
     {
-        self.lefts.note(left)?;
-        self.rights.note(right)
+        self.lefts.add(left)?;
+        self.rights.add(right)
     }
 }

@@ -1,35 +1,36 @@
-//! Connection costs in rows.
+//! The table of connection costs.
 ghost use Rattle.std.specs.Prelude.{◌≡◌, ◌*◌, ◌<◌, IfOk, OnOk};
-ghost use Rattle.image_bytes.specs.ImageBytes.{kind_of};
-ghost use Rattle.image_bytes.specs.ImageSections.{AreCosts};
+ghost use Rattle.image_format.specs.ImageBytes.{kind_of};
+ghost use Rattle.image_format.specs.ImageSections.{AreCosts};
 ghost use Rattle.mj_model.specs.Tables.{System};
 ghost use Rattle.dict_image.specs.CostTables.{AreRowsTo, IsCostTable, are_few_pairs, cost_before};
 ghost use Rattle.dict_image.specs.Rows.{GrowsByRow};
 
 use crate::context_ids::ContextIds;
+use crate::cost_cache::{CostCache, cost_cache_of};
 use crate::costs::cost_at;
-use crate::near_costs::{NearCosts, near_costs_of};
-use image_bytes::Header;
+use image_format::Header;
 use mj_model::MatrixSizes;
 use std::alloc::{AllocError, Global};
 
-/// A matrix of more pairs of ids is not copied.
+/// The greatest number of pairs of ids whose costs are copied when a dictionary is loaded.
 pub(crate) const COPIED_MAX: usize = 1 << 23;
 
-/// Where connection costs are looked up.
+/// The table of connection costs, by the kind and size of the dictionary.
 #[derive(Drop)]
 pub(crate) enum CostTable {
-    /// Nowhere: a user dictionary has none.
+    /// A user dictionary, which has no connection costs.
     OfUser,
-    /// In a row for each left id, by right id: the search asks for many right ids before one left id.
+    /// A copy with a row for each left id, by right id, because a search reads many right ids
+    /// before one left id.
     InRows(Vec<i16>),
-    /// Those between some ids near one another, and the others in section 1, where those of one left id stand far from one another. There are
-    /// no such ids before a text was looked at.
-    Near(NearCosts),
+    /// A cache of the costs between some ids; other costs are read from section 1, where those of
+    /// one left id lie far apart. The cache is empty until `cache_costs`.
+    Cache(CostCache),
 }
 
-/// Where the connection costs of a dictionary are looked up. Those of a system dictionary with at most `COPIED_MAX` pairs take memory: 2
-/// bytes for each pair. Those of a larger one take 2 bytes for each id.
+/// Returns the table of connection costs for an image. For a system dictionary of at most
+/// `COPIED_MAX` pairs it allocates 2 bytes for each pair, for a larger one 2 bytes for each id.
 pub(crate) fn cost_table_of(
     alloc: Global,
     header: &Header,
@@ -47,24 +48,24 @@ pub(crate) fn cost_table_of(
         return Ok(CostTable::InRows(cost_rows(alloc, costs, sizes)?));
     }
     let none = ContextIds::new(alloc, sizes)?;
-    Ok(CostTable::Near(near_costs_of(alloc, costs, sizes, none)?))
+    Ok(CostTable::Cache(cost_cache_of(alloc, costs, sizes, none)?))
 }
 
-/// Whether there are no more pairs of ids than are copied.
+/// Returns whether there are at most `COPIED_MAX` pairs of ids.
 pub(crate) fn are_few(sizes: MatrixSizes) -> bool
     ensures { result ≡ are_few_pairs sizes }
 {
     pairs(sizes) <= COPIED_MAX
 }
 
-/// How many pairs of ids there are.
+/// Returns the number of pairs of ids.
 fn pairs(sizes: MatrixSizes) -> usize
     ensures { result ≡ sizes.left * sizes.right }
 {
     sizes.left as usize * sizes.right as usize
 }
 
-/// The costs of a matrix, row by left id.
+/// Copies the costs of a matrix into rows by left id.
 fn cost_rows(alloc: Global, costs: &[u8], sizes: MatrixSizes) -> Result<Vec<i16>, AllocError>
     requires { AreCosts sizes costs.now }
     ensures { IfOk result (λ rows. AreRowsTo sizes costs.now sizes.left rows.items) }
@@ -76,7 +77,7 @@ fn cost_rows(alloc: Global, costs: &[u8], sizes: MatrixSizes) -> Result<Vec<i16>
     Ok(rows)
 }
 
-/// Appends the costs before a left id.
+/// Appends the costs of one left id to `rows`.
 fn append_row(
     costs: &[u8],
     sizes: MatrixSizes,

@@ -1,11 +1,11 @@
-//! The section of connection costs.
+//! Access to the section of connection costs.
 ghost use Rattle.std.specs.Prelude.{◌≡◌, ◌<◌};
-ghost use Rattle.image_bytes.specs.ImageSections.{AreCosts, stored_cost};
+ghost use Rattle.image_format.specs.ImageSections.{AreCosts, stored_cost};
 
-use image_bytes::i16_at;
+use image_format::i16_at;
 use mj_model::MatrixSizes;
 
-/// The connection cost of a right id and a left id, in a table of these sizes.
+/// Returns the connection cost of a right id and a left id, in a table of these sizes.
 pub(crate) fn cost_at(costs: &[u8], sizes: MatrixSizes, right: u32, left: u32) -> i16
     requires costs { AreCosts sizes costs.now }
     requires right { right < sizes.right }

@@ -1,20 +1,21 @@
-//! The connection costs before words of one left id.
+//! The connection costs of one left id.
 ghost use Rattle.std.specs.Prelude.{IfSome, ◌≡◌, ◌*◌, ◌<◌, Some, length, slice_get};
-ghost use Rattle.image_bytes.specs.ImageBytes.{header_of, section as section_of};
-ghost use Rattle.image_bytes.specs.ImageMeaning.{image_tables};
-ghost use Rattle.image_bytes.specs.ImageSections.{AreCosts};
+ghost use Rattle.image_format.specs.ImageBytes.{header_of, section as section_of};
+ghost use Rattle.image_format.specs.ImageMeaning.{image_tables};
+ghost use Rattle.image_format.specs.ImageSections.{AreCosts};
 ghost use Rattle.mj_model.specs.Tables.{System};
-ghost use Rattle.dict_image.specs.CostRows.{AreCostsBefore, AreStoredBefore, IsCostRow, IsFarRow, IsSectionRow, costs_in_row, costs_in_section, stored_in};
+ghost use Rattle.dict_image.specs.CostRows.{AreCostsBefore, AreStoredBefore, IsCostRow, IsCachedRow, IsSectionRow, costs_in_row, costs_in_section, stored_in};
 
 use crate::cost_table::CostTable;
 use crate::costs::cost_at;
 use crate::dict::Dict;
 use crate::rows::row_of;
-use image_bytes::Section::Costs;
+use image_format::Section::Costs;
 use mj_model::MatrixSizes;
 use std::marker::Model;
 
-/// The connection costs before words of one left id, by right id: where they lie was found once for all of them.
+/// The costs of connecting any word to a following word with one left id, indexed by the right id
+/// of the first. The row is located once, so each lookup is cheap.
 #[derive(Drop)]
 pub struct CostsBefore<'a> {
     row: CostRow<'a>,
@@ -31,16 +32,16 @@ impl<'a> Model for CostsBefore<'a> {
     ghost invariant = { λ it. IsCostRow it.row };
 }
 
-/// Where the costs before one left id lie.
+/// The storage of the costs of one left id.
 #[derive(Drop)]
 pub(crate) enum CostRow<'a> {
-    /// In a row.
+    /// A row of the copied table.
     InRow(&'a [i16]),
-    /// In section 1, far from one another, and some of them in a row too.
-    Far(FarRow<'a>),
+    /// Section 1, and a cached row with some of the costs.
+    Cached(CachedRow<'a>),
 }
 
-/// Those in section 1, of a table of these sizes.
+/// The costs of one left id in section 1, which has a table of these sizes.
 #[derive(Clone, Copy, Drop)]
 pub(crate) struct SectionRow<'a> {
     pub costs: &'a [u8],
@@ -48,17 +49,17 @@ pub(crate) struct SectionRow<'a> {
     pub left: u32,
 }
 
-/// Those in section 1, with the row of those that lie near one another. `numbers` has a number for each right id: its place in that row, or one
-/// behind the row's end.
+/// The costs of one left id in section 1, with their cached row. `numbers` has for each right id
+/// its index in that row, or an index after the row's end.
 #[derive(Clone, Copy, Drop)]
-pub(crate) struct FarRow<'a> {
+pub(crate) struct CachedRow<'a> {
     pub near: &'a [i16],
     pub numbers: &'a [u16],
     pub section: SectionRow<'a>,
 }
 
 impl<'a> SectionRow<'a> {
-    /// Those before a left id in a section that has a table of these sizes.
+    /// Returns the costs of left id `left` in a section with a table of these sizes.
     #[inline(always)]
     fn new(costs: &'a [u8], sizes: MatrixSizes, left: u16) -> SectionRow<'a>
         requires costs { AreCosts sizes costs.now }
@@ -77,7 +78,8 @@ impl<'a> SectionRow<'a> {
 }
 
 impl<'a> CostsBefore<'a> {
-    /// What it costs to set a word of the left id behind one of this right id.
+    /// Returns the cost of connecting a word with right id `right` to a following word with the
+    /// left id of this row.
     #[inline(always)]
     pub fn after(&self, right: usize) -> i16
         requires { right < length self.now }
@@ -85,12 +87,12 @@ impl<'a> CostsBefore<'a> {
     {
         match &self.row {
             CostRow::InRow(costs) => cost_in_row(costs, right),
-            CostRow::Far(row) => far_cost(*row, right),
+            CostRow::Cached(row) => large_matrix_cost(*row, right),
         }
     }
 }
 
-/// The cost of a right id, in a row.
+/// Returns the cost of a right id from a row.
 #[inline(always)]
 fn cost_in_row(costs: &[i16], right: usize) -> i16
     requires { right < length costs.now }
@@ -99,23 +101,23 @@ fn cost_in_row(costs: &[i16], right: usize) -> i16
     costs[right]
 }
 
-/// The cost of a right id, near the others where it has one there.
+/// Returns the cost of a right id, from the cached row if it is there.
 #[inline(always)]
-fn far_cost(row: FarRow<'_>, right: usize) -> i16
-    requires row { IsFarRow row }
+fn large_matrix_cost(row: CachedRow<'_>, right: usize) -> i16
+    requires row { IsCachedRow row }
     requires there { right < length (costs_in_section row.section) }
     ensures { slice_get (costs_in_section row.entry.section) right ≡ Some result }
 {
-    if let Some(cost) = near_cost(row, right) {
+    if let Some(cost) = cached_cost(row, right) {
         return cost;
     }
     cost_in_section(row.section, right)
 }
 
-/// That of a right id in the row of those that lie near one another, if it has one there.
+/// Returns the cost of a right id from the cached row, or None if it is not there.
 #[inline(always)]
-fn near_cost(row: FarRow<'_>, right: usize) -> Option<i16>
-    requires row { IsFarRow row }
+fn cached_cost(row: CachedRow<'_>, right: usize) -> Option<i16>
+    requires row { IsCachedRow row }
     requires there { right < length (costs_in_section row.section) }
     ensures { IfSome result (λ cost. cost ≡ stored_in row.entry.section right) }
 {
@@ -124,7 +126,7 @@ fn near_cost(row: FarRow<'_>, right: usize) -> Option<i16>
     Some(cost)
 }
 
-/// The cost of a right id, by section 1.
+/// Returns the cost of a right id from section 1.
 #[inline(always)]
 fn cost_in_section(row: SectionRow<'_>, right: usize) -> i16
     requires row { IsSectionRow row }
@@ -135,7 +137,8 @@ fn cost_in_section(row: SectionRow<'_>, right: usize) -> i16
 }
 
 impl Dict {
-    /// The connection costs before words of a left id. Smaller is preferred, and EOS has id 0. (MeCab, `matrix.def`)
+    /// Returns the costs of connecting words to a following word with left id `left`. Smaller is
+    /// preferred, and EOS has left id 0. (MeCab, `matrix.def`)
     #[inline(always)]
     pub fn costs_before(&self, left: u16) -> CostsBefore<'_>
         requires system { (image_tables self.now).kind ≡ System }
@@ -147,7 +150,8 @@ impl Dict {
         }
     }
 
-    /// Where the costs before a left id lie. Nothing of section 1 is looked at where they are in a row.
+    /// Returns the storage of the costs of one left id. Does not read section 1 if they are in a
+    /// row.
     #[inline(always)]
     fn row_before(&self, left: u16) -> CostRow<'_>
         requires system { (image_tables self.now).kind ≡ System }
@@ -162,11 +166,11 @@ impl Dict {
                 let width = self.header().sizes.right as usize;
                 CostRow::InRow(row_of(rows, width, usize::from(left)))
             }
-            CostTable::Near(near) => near.row(self.section_row(left)),
+            CostTable::Cache(near) => near.row(self.section_row(left)),
         }
     }
 
-    /// Those before a left id in section 1.
+    /// Returns the costs of one left id in section 1.
     #[inline(always)]
     fn section_row(&self, left: u16) -> SectionRow<'_>
         requires system { (image_tables self.now).kind ≡ System }

@@ -1,16 +1,16 @@
-//! A dictionary: the bytes of a well-formed image.
+//! A dictionary: the bytes of a well-formed image, and its lookup tables.
 ghost use Rattle.std.specs.Prelude.{◌≡◌, ℕ, ◌<◌, List, IfOk};
 ghost use Rattle.dict_image.specs.Fitting.{AreFitting};
-ghost use Rattle.dict_image.specs.Held.{IsCostTableIn, IsInfoTableIn};
+ghost use Rattle.dict_image.specs.LookupState.{IsCostTableIn, IsInfoTableIn};
 ghost use Rattle.dict_image.specs.ImageKeys.{IsKeyTableIn, cells_of_keys, group_under, hits_under};
-ghost use Rattle.dict_image.specs.KeyHits.{hits_seen};
-ghost use Rattle.dict_image.specs.Seen.{token_seen};
-ghost use Rattle.image_bytes.specs.ImageBytes.{all_tokens, header_of, section as section_of};
-ghost use Rattle.image_bytes.specs.ImageFaults.{IsWellFormed};
-ghost use Rattle.image_bytes.specs.ImageMeaning.{image_tables, image_token, tokens_in};
-ghost use Rattle.image_bytes.specs.ImageSections.{stored_cells};
-ghost use Rattle.image_bytes.specs.Sections.{number_of};
-ghost use Rattle.image_check.specs.Outlines.{IsImage, IsOutline};
+ghost use Rattle.dict_image.specs.KeyHits.{hits_view};
+ghost use Rattle.dict_image.specs.Views.{token_view};
+ghost use Rattle.image_format.specs.ImageBytes.{all_tokens, header_of, section as section_of};
+ghost use Rattle.image_format.specs.ImageFaults.{IsWellFormed};
+ghost use Rattle.image_format.specs.ImageMeaning.{image_tables, image_token, tokens_in};
+ghost use Rattle.image_format.specs.ImageSections.{stored_cells};
+ghost use Rattle.image_format.specs.Sections.{number_of};
+ghost use Rattle.dict_image.specs.Validation.Outlines.{IsImage, IsOutline};
 ghost use Rattle.mj_model.specs.Overlays.{is_user};
 
 use crate::cost_table::CostTable;
@@ -21,16 +21,17 @@ use crate::key_hits::KeyHits;
 use crate::key_table::KeyTable;
 use crate::listed_keys::ListedKeys;
 use crate::lookup_tables::{LookupTables, lookup_tables_of};
-use cell_walk::{CellRead, get, prefixes};
-use image_bytes::Section::{Features, Groups, Tokens};
-use image_bytes::{DictKind, Header, ImageCells, Section, section_bytes};
-use image_check::{Keys, Outline};
-use lent::ImageBytes;
+use crate::validation::{Keys, Outline};
+use image_format::Section::{Features, Groups, Tokens};
+use image_format::borrowed::ImageBytes;
+use image_format::{DictKind, Header, ImageCells, Section, section_bytes};
+use mj_model::cell_walk::{CellRead, get, prefixes};
 use mj_model::{Category, MatrixSizes};
 use std::alloc::{AllocError, Global};
 use std::marker::Model;
 
-/// A dictionary, as the bytes of its image, which are read where they lie.
+/// A dictionary, either system or user. It owns the bytes of its image and reads most of it in
+/// place.
 #[derive(Drop)]
 pub struct Dict {
     bytes: ImageBytes,
@@ -41,8 +42,8 @@ pub struct Dict {
 impl Model for Dict {
     ghost use Rattle.std.specs.Prelude.{ℕ, List};
     ghost use Rattle.dict_image.specs.Fitting.{AreFitting};
-    ghost use Rattle.dict_image.specs.Held.{AreLookupTables};
-    ghost use Rattle.image_check.specs.Outlines.{IsOutline};
+    ghost use Rattle.dict_image.specs.LookupState.{AreLookupTables};
+    ghost use Rattle.dict_image.specs.Validation.Outlines.{IsOutline};
 
     ghost Value = { List ℕ };
 
@@ -55,7 +56,7 @@ impl Model for Dict {
 }
 
 impl Dict {
-    /// The dictionary of a well-formed image with its outline. Its lookup tables take memory.
+    /// Returns the dictionary of a well-formed image with its outline. Allocates the lookup tables.
     pub(crate) fn over(
         alloc: Global,
         bytes: ImageBytes,
@@ -72,7 +73,7 @@ impl Dict {
         })
     }
 
-    /// Whether it is a user dictionary, which has a lexicon alone.
+    /// Returns whether it is a user dictionary, which has a lexicon alone.
     pub fn is_user(&self) -> bool
         ensures kind { result ≡ is_user (image_tables self.now).kind }
         ensures formed { IsWellFormed self.now }
@@ -80,8 +81,8 @@ impl Dict {
         matches!(self.header().kind, DictKind::User)
     }
 
-    /// How many right ids and left ids its connection table has. Of each dictionary it is true besides that its tables are as a
-    /// search asks for them.
+    /// Returns the numbers of right ids and left ids of the connection table. Its contract also
+    /// states that the tables satisfy the assumptions of the search.
     pub fn matrix_sizes(&self) -> MatrixSizes
         ensures sizes { result ≡ (image_tables self.now).sizes }
         ensures fitting { AreFitting (image_tables self.now) }
@@ -90,22 +91,24 @@ impl Dict {
         self.header().sizes
     }
 
-    /// How many entries its lexicon has. Their numbers begin at 0, and those of unknown words stand after them.
+    /// Returns the number of lexicon entries. They are numbered from 0; the numbers of unknown
+    /// entries follow.
     pub fn entry_count(&self) -> u32
         ensures { result ≡ (header_of self.now).tokens }
     {
         self.header().tokens
     }
 
-    /// The entry of a number. `EntryRef::token` of each entry that `entries`, `prefixes` or `unknown` answers is such a number.
+    /// Returns entry `i`, as numbered by `EntryRef::token` in the results of `entries`, `prefixes`
+    /// and `unknown`.
     pub fn token(&self, i: u32) -> EntryRef<'_>
         requires { i < all_tokens (header_of self.now) }
-        ensures { token_seen result ≡ image_token self.now i }
+        ensures { token_view result ≡ image_token self.now i }
     {
         token_at(self.section(Tokens), self.section(Features), i)
     }
 
-    /// The numbers of the header.
+    /// Returns the header fields.
     #[inline(always)]
     pub(crate) fn header(&self) -> &Header
         ensures numbers { result.now ≡ header_of self.now }
@@ -114,7 +117,7 @@ impl Dict {
         &self.outline.header
     }
 
-    /// The bytes of a section.
+    /// Returns the bytes of a section.
     #[inline(always)]
     pub(crate) fn section(&self, section: Section) -> &[u8]
         ensures section { result.now ≡ section_of self.now (number_of section) }
@@ -123,7 +126,7 @@ impl Dict {
         section_bytes(self.bytes.as_slice(), &self.outline.ends, section)
     }
 
-    /// Where connection costs are looked up.
+    /// Returns the table of connection costs.
     #[inline(always)]
     pub(crate) fn cost_table(&self) -> &CostTable
         ensures table { IsCostTableIn self.now result.now }
@@ -132,7 +135,7 @@ impl Dict {
         &self.tables.costs
     }
 
-    /// Looks connection costs up in another table from now on.
+    /// Replaces the table of connection costs.
     pub(crate) fn set_cost_table(&mut self, table: CostTable)
         requires { IsCostTableIn self.old table }
         ensures { self.new ≡ self.old }
@@ -140,7 +143,7 @@ impl Dict {
         self.tables.costs = table;
     }
 
-    /// Where the categories of code points are looked up.
+    /// Returns the table of the categories of code points.
     #[inline(always)]
     pub(crate) fn info_table(&self) -> &InfoTable
         ensures table { IsInfoTableIn self.now result.now }
@@ -149,7 +152,7 @@ impl Dict {
         &self.tables.infos
     }
 
-    /// What the categories say, by their numbers.
+    /// Returns the categories, by their numbers.
     #[inline(always)]
     pub(crate) fn categories(&self) -> &[Category]
         ensures categories { result.now ≡ (image_tables self.now).categories }
@@ -158,7 +161,7 @@ impl Dict {
         &self.tables.categories
     }
 
-    /// The keys, to look one up.
+    /// Returns the key table for exact lookup.
     #[inline(always)]
     fn key_table(&self) -> KeyTable<'_>
         ensures table { IsKeyTableIn self.now result }
@@ -172,7 +175,7 @@ impl Dict {
         }
     }
 
-    /// The cells of the keys, where they are not listed.
+    /// Returns the cells of the double array. Not meaningful in layout 1, which lists its keys.
     #[inline(always)]
     fn cells(&self) -> ImageCells<'_>
         ensures { result.bytes.now ≡ section_of self.now 5 }
@@ -182,7 +185,7 @@ impl Dict {
         }
     }
 
-    /// The group of a key.
+    /// Returns the group with the surface `key`.
     pub(crate) fn group_of(&self, key: &[u8]) -> Option<u32>
         ensures group { result ≡ group_under self.now key.now }
         ensures formed { IsImage self.now }
@@ -193,13 +196,13 @@ impl Dict {
         }
     }
 
-    /// The keys that begin a text, with their groups.
+    /// Returns the keys that are prefixes of `text`, with their groups.
     #[inline(always)]
     pub(crate) fn hits<'a>(&'a self, text: &'a [u8]) -> KeyHits<'a>
-        ensures hits { (hits_seen result).hits ≡ hits_under self.now text.now }
-        ensures cells { (hits_seen result).cells ≡ cells_of_keys self.now }
-        ensures text { (hits_seen result).text ≡ text.now }
-        ensures walked { (hits_seen result).walked ≡ 0 }
+        ensures hits { (hits_view result).hits ≡ hits_under self.now text.now }
+        ensures cells { (hits_view result).cells ≡ cells_of_keys self.now }
+        ensures text { (hits_view result).text ≡ text.now }
+        ensures walked { (hits_view result).walked ≡ 0 }
         ensures formed { IsImage self.now }
     {
         match self.key_table() {
@@ -208,7 +211,7 @@ impl Dict {
         }
     }
 
-    /// The entries of a group.
+    /// Returns the entries of group `i`.
     #[inline(always)]
     pub(crate) fn group(&self, i: u32) -> Entries<'_>
         requires { i < (header_of self.now).groups }
@@ -224,7 +227,8 @@ impl Dict {
     }
 }
 
-/// The cells of the keys of layouts 2 and 3, which give each surface its group. Layout 1 lists its keys, and its cells mean nothing.
+/// The double array of layouts 2 and 3, which maps each surface to its group. In layout 1 the cells
+/// have no meaning.
 impl CellRead for Dict {
     ghost cells = { λ bytes. stored_cells (section_of bytes 5) };
 

@@ -1,19 +1,19 @@
-//! The iterator over entries whose tokens stand one behind another.
+//! The iterator over entries with consecutive numbers.
 ghost use Rattle.std.specs.Prelude.{◌≡◌, ◌+◌, ◌*◌, ◌≤◌, [], suc, length, map};
 ghost use Rattle.std.specs.Iterator.{YieldsFirstBy, item_count};
 ghost use Rattle.std.specs.List.{range_with_len};
-ghost use Rattle.image_bytes.specs.ImageMeaning.{tokens_in};
-ghost use Rattle.image_bytes.specs.ImageSections.{index_at};
-ghost use Rattle.dict_image.specs.Seen.{token_seen};
-ghost use Rattle.dict_image.specs.Held.{HoldTokens};
+ghost use Rattle.image_format.specs.ImageMeaning.{tokens_in};
+ghost use Rattle.image_format.specs.ImageSections.{index_at};
+ghost use Rattle.dict_image.specs.Views.{token_view};
+ghost use Rattle.dict_image.specs.LookupState.{HoldTokens};
 ghost use Rattle.dict_image.specs.Tokens.{tokens_from};
 
+use crate::entry_range::EntryRange;
 use crate::entry_ref::{EntryRef, token_at};
-use crate::token_row::TokenRow;
-use image_bytes::u32_at;
+use image_format::u32_at;
 use std::marker::Model;
 
-/// The entries that are left, in the order of their numbers.
+/// An iterator over the remaining entries, in the order of their numbers.
 #[derive(Drop)]
 pub struct Entries<'a> {
     tokens: &'a [u8],
@@ -25,7 +25,7 @@ pub struct Entries<'a> {
 impl<'a> Model for Entries<'a> {
     ghost use Rattle.std.specs.Prelude.{◌≤◌, List};
     ghost use Rattle.mj_model.specs.Tables.{Token};
-    ghost use Rattle.dict_image.specs.Held.{HoldTokens};
+    ghost use Rattle.dict_image.specs.LookupState.{HoldTokens};
     ghost use Rattle.dict_image.specs.Tokens.{tokens_from};
 
     ghost Value = { List Token };
@@ -39,7 +39,7 @@ impl<'a> Model for Entries<'a> {
 }
 
 impl<'a> Entries<'a> {
-    /// No entries.
+    /// Returns an iterator over no entries.
     pub(crate) fn none() -> Entries<'a>
         ensures { result ≡ [] }
     {
@@ -51,7 +51,7 @@ impl<'a> Entries<'a> {
         }
     }
 
-    /// The entries of list `i` of an index.
+    /// Returns the entries of list `i` of `index`.
     #[inline(always)]
     pub(crate) fn of_list(
         index: &[u8],
@@ -73,12 +73,12 @@ impl<'a> Entries<'a> {
         }
     }
 
-    /// The numbers of the entries that are left.
+    /// Returns the numbers of the remaining entries.
     #[inline(always)]
-    pub fn row(&self) -> TokenRow
+    pub fn row(&self) -> EntryRange
         ensures { map (λ t. t.number) self.now ≡ range_with_len result.first result.count }
     {
-        TokenRow {
+        EntryRange {
             first: self.next,
             count: self.end - self.next,
         }
@@ -88,7 +88,7 @@ impl<'a> Entries<'a> {
 impl<'a> Iterator for Entries<'a> {
     type Item = EntryRef<'a>;
 
-    ghost next_gives = { YieldsFirstBy token_seen (λ rest. rest) };
+    ghost next_gives = { YieldsFirstBy token_view (λ rest. rest) };
 
     ghost remaining = { item_count (λ rest. rest) };
 
@@ -97,7 +97,7 @@ impl<'a> Iterator for Entries<'a> {
     }
 }
 
-/// The entry of the next token, of those before `end`.
+/// Returns the entry of the next token and advances `next`. Returns None at `end`.
 fn next_token<'a>(
     tokens: &'a [u8],
     features: &'a [u8],
@@ -107,7 +107,7 @@ fn next_token<'a>(
     requires order { next.old ≤ end }
     requires hold { HoldTokens tokens.now features.now end }
     ensures order { next.new ≤ end }
-    ensures entries { YieldsFirstBy token_seen (λ n. tokens_from tokens.now features.now n end)
+    ensures entries { YieldsFirstBy token_view (λ n. tokens_from tokens.now features.now n end)
         next.old result next.new }
 {
     let i = *next;

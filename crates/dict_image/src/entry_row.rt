@@ -1,16 +1,17 @@
-//! Entries whose numbers follow one another, as a search asks for them.
+//! Ids and costs of entries with consecutive numbers.
 ghost use Rattle.std.specs.Prelude.{◌≡◌, ◌+◌, ◌<◌, ◌≤◌, Some, drop, length, map, slice_get, take};
-ghost use Rattle.image_bytes.specs.ImageMeaning.{image_tables};
+ghost use Rattle.image_format.specs.ImageMeaning.{image_tables};
 ghost use Rattle.dict_image.specs.Numbered.{numbered_tokens};
-ghost use Rattle.dict_image.specs.Seen.{ids_and_cost_of};
+ghost use Rattle.dict_image.specs.Views.{ids_and_cost_of};
 
 use crate::dict::Dict;
+use crate::entry_range::EntryRange;
 use crate::ids_and_cost::{IdsAndCost, ids_and_cost_at};
-use crate::token_row::TokenRow;
-use image_bytes::Section::Tokens;
+use image_format::Section::Tokens;
 use std::marker::Model;
 
-/// The ids and costs of entries whose numbers follow one another: where they lie was found once for all of them.
+/// The ids and word costs of entries with consecutive numbers. They are located once, so each
+/// lookup is cheap.
 #[derive(Drop)]
 pub struct EntryRow<'a> {
     tokens: &'a [u8],
@@ -27,7 +28,7 @@ impl<'a> Model for EntryRow<'a> {
 }
 
 impl<'a> EntryRow<'a> {
-    /// Those of entry `i` of the row.
+    /// Returns the ids and the cost of entry `i` of the row.
     #[inline(always)]
     pub fn get(&self, i: u32) -> IdsAndCost
         requires { i < length self.now }
@@ -38,9 +39,10 @@ impl<'a> EntryRow<'a> {
 }
 
 impl Dict {
-    /// The ids and costs of a row of entries. The numbers of the unknown entries follow those of the lexicon.
+    /// Returns the ids and costs of the entries in `row`. The numbers of unknown entries follow
+    /// those of the lexicon.
     #[inline(always)]
-    pub fn entry_row(&self, row: TokenRow) -> EntryRow<'_>
+    pub fn entry_row(&self, row: EntryRange) -> EntryRow<'_>
         requires { row.first + row.count ≤ length (numbered_tokens (image_tables self.now)) }
         ensures { result ≡ map ids_and_cost_of
             (take row.count (drop row.first (numbered_tokens (image_tables self.now)))) }

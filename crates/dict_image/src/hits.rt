@@ -1,11 +1,11 @@
-//! The iterator over the surfaces that begin a text.
+//! The iterator over the surfaces that are prefixes of a text.
 ghost use Rattle.std.specs.Prelude.{◌≡◌, ◌+◌, ◌*◌, ◌<◌, ◌≤◌, [], length, map, option_map};
-ghost use Rattle.cell_walk.specs.Reads.{walk_reads};
-ghost use Rattle.cell_walk.specs.Walking.{walked_to};
+ghost use Rattle.mj_model.specs.Reads.{walk_reads};
+ghost use Rattle.mj_model.specs.Walking.{walked_to};
 ghost use Rattle.dict_image.specs.ImageKeys.{AreHitsIn, cells_of_keys};
-ghost use Rattle.dict_image.specs.KeyHits.{hits_seen};
+ghost use Rattle.dict_image.specs.KeyHits.{hits_view};
 ghost use Rattle.dict_image.specs.Prefixes.{prefix_in, prefixes_in};
-ghost use Rattle.image_bytes.specs.ImageMeaning.{image_tables, lexicon_sections};
+ghost use Rattle.image_format.specs.ImageMeaning.{image_tables, lexicon_sections};
 ghost use Rattle.std.specs.Iterator.{YieldsFirstBy, item_count};
 
 use crate::dict::Dict;
@@ -13,9 +13,11 @@ use crate::entries::Entries;
 use crate::key_hits::KeyHits;
 use std::marker::Model;
 
-/// The surfaces that begin a text, the shortest first, with their entries.
+/// An iterator over the surfaces that are prefixes of a text, the shortest first, with their
+/// entries.
 ///
-/// Contracts see those that are left, the cells of the keys, the text, and how many bytes of it were gone over.
+/// Contracts describe it by the remaining surfaces, the cells of the double array, the text, and
+/// the number of bytes that were walked.
 #[derive(Drop)]
 pub struct Prefixes<'a> {
     dict: &'a Dict,
@@ -25,20 +27,20 @@ pub struct Prefixes<'a> {
 impl<'a> Model for Prefixes<'a> {
     ghost use Rattle.std.specs.Prelude.{map};
     ghost use Rattle.dict_image.specs.ImageKeys.{AreHitsIn};
-    ghost use Rattle.dict_image.specs.KeyHits.{hits_seen};
-    ghost use Rattle.dict_image.specs.Prefixes.{PrefixesSeen, prefix_in};
-    ghost use Rattle.image_bytes.specs.ImageMeaning.{lexicon_sections};
+    ghost use Rattle.dict_image.specs.KeyHits.{hits_view};
+    ghost use Rattle.dict_image.specs.Prefixes.{PrefixesView, prefix_in};
+    ghost use Rattle.image_format.specs.ImageMeaning.{lexicon_sections};
 
-    ghost Value = { PrefixesSeen };
+    ghost Value = { PrefixesView };
 
     ghost view = { λ it. record {
-      prefixes = map (prefix_in (lexicon_sections it.dict.now)) (hits_seen it.hits).hits;
-      cells = (hits_seen it.hits).cells;
-      text = (hits_seen it.hits).text;
-      walked = (hits_seen it.hits).walked;
+      prefixes = map (prefix_in (lexicon_sections it.dict.now)) (hits_view it.hits).hits;
+      cells = (hits_view it.hits).cells;
+      text = (hits_view it.hits).text;
+      walked = (hits_view it.hits).walked;
     } };
 
-    ghost invariant = { λ it. AreHitsIn it.dict.now (hits_seen it.hits).hits };
+    ghost invariant = { λ it. AreHitsIn it.dict.now (hits_view it.hits).hits };
 }
 
 impl<'a> Prefixes<'a> {
@@ -55,7 +57,7 @@ impl<'a> Prefixes<'a> {
         }
     }
 
-    /// How many cells were read so far: none where keys are listed.
+    /// Returns the number of cells read so far. It is 0 if keys are listed.
     pub fn reads(&self) -> u64
         ensures reads { result ≡ walk_reads self.now.cells self.now.text self.now.walked }
         ensures few { result ≤ 2 * length self.now.text + 1 }
@@ -84,15 +86,15 @@ impl<'a> Iterator for Prefixes<'a> {
 /// The surface of the next hit.
 #[inline(always)]
 fn next_prefix<'a>(dict: &'a Dict, hits: &mut KeyHits<'a>) -> Option<(usize, Entries<'a>)>
-    requires groups { AreHitsIn dict.now (hits_seen hits.old).hits }
-    ensures groups { AreHitsIn dict.now (hits_seen hits.new).hits }
+    requires groups { AreHitsIn dict.now (hits_view hits.old).hits }
+    ensures groups { AreHitsIn dict.now (hits_view hits.new).hits }
     ensures prefixes { YieldsFirstBy (λ prefix. (prefix.0, prefix.1))
-        (λ it. map (prefix_in (lexicon_sections dict.now)) (hits_seen it).hits)
+        (λ it. map (prefix_in (lexicon_sections dict.now)) (hits_view it).hits)
         hits.old result hits.new }
-    ensures cells { (hits_seen hits.new).cells ≡ (hits_seen hits.old).cells }
-    ensures text { (hits_seen hits.new).text ≡ (hits_seen hits.old).text }
-    ensures walked { (hits_seen hits.new).walked
-        ≡ walked_to (hits_seen hits.old).text (option_map (λ prefix. prefix.0) result) }
+    ensures cells { (hits_view hits.new).cells ≡ (hits_view hits.old).cells }
+    ensures text { (hits_view hits.new).text ≡ (hits_view hits.old).text }
+    ensures walked { (hits_view hits.new).walked
+        ≡ walked_to (hits_view hits.old).text (option_map (λ prefix. prefix.0) result) }
 {
     let hit = hits.next_hit()?;
     Some((hit.length, dict.group(hit.value)))

@@ -1,8 +1,8 @@
-//! The categories of code points by a table of the basic plane.
+//! The categories of code points, in a table of the basic plane.
 ghost use Rattle.std.specs.Prelude.{◌≡◌, ◌+◌, ◌<◌, IfOk};
-ghost use Rattle.image_bytes.specs.ImageBytes.{kind_of};
-ghost use Rattle.image_bytes.specs.ImageSections.{range_count, stored_info};
-ghost use Rattle.image_bytes.specs.Layouts.{info_form};
+ghost use Rattle.image_format.specs.ImageBytes.{kind_of};
+ghost use Rattle.image_format.specs.ImageSections.{range_count, stored_info};
+ghost use Rattle.image_format.specs.Layouts.{info_form};
 ghost use Rattle.mj_model.specs.Tables.{System};
 ghost use Rattle.dict_image.specs.Infos.{AreReadable};
 ghost use Rattle.dict_image.specs.InfoTables.{AreOfPlane, IsInfoTable, plane_start};
@@ -10,24 +10,26 @@ ghost use Rattle.dict_image.specs.Ranges.{AreInOrder};
 
 use crate::infos::info_of;
 use crate::ranges::info_at;
-use image_bytes::{Header, InfoForm, u32_at};
+use image_format::{Header, InfoForm, u32_at};
 use mj_model::CharInfo;
 use std::alloc::{AllocError, Global};
 
-/// How many code points the basic plane has: those up to U+FFFF. (Unicode)
+/// The number of code points in the basic plane, U+0000 to U+FFFF. (Unicode)
 pub(crate) const BASIC_PLANE: usize = 0x1_0000;
 
-/// Where the categories of code points are looked up.
+/// The table of the categories of code points.
 #[derive(Drop)]
 pub(crate) enum InfoTable {
-    /// In section 3: layouts 1 and 2 have an entry for each code point there, and a user dictionary has none.
+    /// Section 3 itself, which has an entry for each code point up to U+FFFE in layouts 1 and 2,
+    /// and is empty in a user dictionary.
     InSection,
-    /// In an entry for each code point of the basic plane, and beyond it in the ranges of section 3.
+    /// An entry for each code point of the basic plane. Higher code points are searched in the
+    /// ranges of section 3.
     OfPlane(Vec<u32>),
 }
 
-/// Where the categories of a dictionary's code points are looked up. The ranges of a system dictionary alone take memory: 4 bytes for
-/// each code point of the basic plane.
+/// Returns the table of the categories of code points for an image. For a system dictionary with
+/// ranges it allocates 4 bytes for each code point of the basic plane.
 pub(crate) fn info_table_of(
     alloc: Global,
     header: &Header,
@@ -46,7 +48,7 @@ pub(crate) fn info_table_of(
     }
 }
 
-/// The entries of the code points of the basic plane, one range behind another.
+/// Returns the entries of the basic plane, filled range by range.
 fn plane_entries(alloc: Global, ranges: &[u8]) -> Result<Vec<u32>, AllocError>
     requires { AreInOrder ranges.now }
     ensures { IfOk result (λ entries. AreOfPlane ranges.now entries.items) }
@@ -58,7 +60,8 @@ fn plane_entries(alloc: Global, ranges: &[u8]) -> Result<Vec<u32>, AllocError>
     Ok(entries)
 }
 
-/// Where a range ends in the basic plane: where the one behind it begins, or at the plane's end.
+/// Returns the end of range `i` in the basic plane: the start of the next range, or the end of the
+/// plane.
 fn end_in_plane(ranges: &[u8], i: usize) -> usize
     requires { i < range_count ranges.now }
     ensures { result ≡ plane_start ranges.now (i + 1) }
@@ -70,7 +73,8 @@ fn end_in_plane(ranges: &[u8], i: usize) -> usize
     }
 }
 
-/// The categories of a code point: by its entry in the basic plane, and beyond it by the range that has it, of which `near` is a guess.
+/// Returns the categories of a code point from the table of the plane or, beyond the plane, from
+/// its range. `near` is a guess at that range.
 #[inline(always)]
 pub(crate) fn plane_info(entries: &[u32], ranges: &[u8], code: u32, near: &mut usize) -> CharInfo
     requires order { AreInOrder ranges.now }

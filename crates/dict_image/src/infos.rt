@@ -1,13 +1,14 @@
 //! The categories of code points by their entries.
 ghost use Rattle.std.specs.Prelude.{◌≡◌, ◌/◌, ◌^◌, ◌<◌};
-ghost use Rattle.image_bytes.specs.ImageSections.{info_of_entry};
-ghost use Rattle.image_bytes.specs.OlderSections.{listed_info};
+ghost use Rattle.image_format.specs.ImageSections.{info_of_entry};
+ghost use Rattle.image_format.specs.OlderSections.{listed_info};
 ghost use Rattle.dict_image.specs.Infos.{AreWhole};
 
-use image_bytes::{OWN_ENTRIES, u32_at};
+use image_format::{OWN_ENTRIES, u32_at};
 use mj_model::CharInfo;
 
-/// The categories of a code point by its entry. Those from U+FFFF on have the entry of U+0000.
+/// Returns the categories of a code point from a list of entries. Code points from U+FFFF on have
+/// the entry of U+0000.
 pub(crate) fn listed_at(entries: &[u8], code: u32) -> CharInfo
     requires { AreWhole entries.now }
     ensures { result ≡ listed_info entries.now code }
@@ -16,7 +17,8 @@ pub(crate) fn listed_at(entries: &[u8], code: u32) -> CharInfo
     info_of(u32_at(entries, 4 * number as usize))
 }
 
-/// The categories in an entry: bits 0 to 17 are their set, those above the first of them.
+/// Returns the categories in an entry: bits 0 to 17 are their set, the higher bits the first
+/// category.
 #[inline(always)]
 pub(crate) fn info_of(entry: u32) -> CharInfo
     requires { entry / 2 ^ 18 < 256 }

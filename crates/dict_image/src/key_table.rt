@@ -1,11 +1,11 @@
-//! The ways to a key, by layout.
+//! The table of keys, for each layout.
 
 use crate::listed_keys::ListedKeys;
 
-/// The keys of a dictionary, to look one up.
+/// The table for exact lookup of a key.
 #[derive(Drop)]
 pub(crate) enum KeyTable<'a> {
     Listed(ListedKeys<'a>),
-    /// The dictionary's own cells.
+    /// The double array of the dictionary.
     Cells,
 }

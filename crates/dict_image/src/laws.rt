@@ -1,12 +1,12 @@
-//! What is true of the tables of every dictionary.
-ghost use Rattle.image_bytes.specs.ImageMeaning.{image_tables};
+//! Laws of the tables of every dictionary.
+ghost use Rattle.image_format.specs.ImageMeaning.{image_tables};
 ghost use Rattle.dict_image.specs.Fitting.{AreBytes, AreFitting};
 
 use crate::dict::Dict;
-use image_bytes::Section;
+use image_format::Section;
 
 impl Dict {
-    /// The tables are as a search asks for them.
+    /// States that the tables satisfy the assumptions of the search.
     pub(crate) fn tables_fit(&self)
         ensures { AreFitting (image_tables self.now) }
     {
@@ -15,7 +15,7 @@ impl Dict {
     }
 }
 
-/// A byte is below 256.
+/// States that each byte is below 256.
 fn are_bytes(bytes: &[u8])
     ensures { AreBytes bytes.now }
 {

@@ -1,46 +1,62 @@
-//! The compiled dictionary: an image's bytes, read where they lie.
+//! Compiled dictionaries: loads an image and looks up surfaces, unknown words, character categories
+//! and connection costs in it. Use it to read a dictionary; `word_lookup` and `segmenter` build on
+//! it. `load` tests an image with `validation`, `load_written` takes one that this program wrote, and
+//! `load_trusted` one that is known to be intact.
+//!
+//! Example:
+//!
+//! ```text
+//! let dict = dict_image::load(alloc, image)?;   // a user image with the surface `a`
+//! let mut entries = dict.entries("a");
+//! entries.next()    // Some(EntryRef { left: 1, right: 1, cost: 1, feature: "X", token: 0 })
+//! entries.next()    // None
+//! ```
+//! The test `entries_of_keys` of `crates/dictionary_tests` runs it.
 #![tactic(auto)]
 
 mod categories;
 mod context_ids;
+mod cost_cache;
 mod cost_table;
 mod costs;
 mod costs_before;
 mod dict;
 mod entries;
+mod entry_range;
 mod entry_ref;
 mod entry_row;
-mod far_costs;
 mod hits;
 mod ids_and_cost;
 mod info_table;
 mod infos;
 mod key_hits;
+mod key_range;
 mod key_table;
+mod large_matrix;
 mod laws;
 mod listed_hits;
 mod listed_keys;
-mod listed_range;
 mod loading;
 mod lookup;
 mod lookup_tables;
-mod near_costs;
 mod numbered;
 mod numbered_ids;
 mod ranges;
 mod rows;
 mod system;
-mod token_row;
+pub mod validation;
 
 pub use context_ids::ContextIds;
 pub use costs_before::CostsBefore;
 pub use dict::Dict;
 pub use entries::Entries;
+pub use entry_range::EntryRange;
 pub use entry_ref::EntryRef;
 pub use entry_row::EntryRow;
 pub use hits::Prefixes;
 pub use ids_and_cost::IdsAndCost;
-pub use image_bytes::DigestTest;
-pub use loading::{load, load_by, load_bytes, load_trusted, load_without_digest, load_written};
+pub use image_format::DigestTest;
+pub use loading::{
+    load, load_image_bytes, load_testing, load_trusted, load_without_digest, load_written,
+};
 pub use numbered_ids::{NUMBERED_MAX, NumberedIds};
-pub use token_row::TokenRow;

@@ -1,49 +1,50 @@
-//! The iterator over the listed keys that begin a text.
+//! The iterator over the listed keys that are prefixes of a text.
 ghost use Rattle.std.specs.Prelude.{◌≡◌, option_map};
 ghost use Rattle.std.specs.Iterator.{YieldsFirstBy, item_count};
-ghost use Rattle.cell_walk.specs.Walking.{walked_to};
-ghost use Rattle.dict_image.specs.ListedHits.{HaveBegun, listed_hits_behind};
+ghost use Rattle.mj_model.specs.Walking.{walked_to};
+ghost use Rattle.dict_image.specs.ListedHits.{IsKeyRange, listed_hits_after};
 
+use crate::key_range::KeyRange;
 use crate::listed_keys::ListedKeys;
-use crate::listed_range::Begun;
-use cell_walk::Hit;
+use mj_model::cell_walk::Hit;
 use std::marker::Model;
 
-/// The listed keys that begin a text, the shortest first. Those that begin with the bytes gone over so far are at hand, so that a byte more
-/// costs two binary searches for that byte alone.
+/// An iterator over the listed keys that are prefixes of a text, the shortest first. It keeps the
+/// range of keys that share the bytes walked so far, so that one more byte costs two binary
+/// searches for that byte alone.
 #[derive(Drop)]
 pub(crate) struct ListedHits<'a> {
     keys: ListedKeys<'a>,
     text: &'a [u8],
-    begun: Begun,
+    started: KeyRange,
 }
 
 impl<'a> Model for ListedHits<'a> {
-    ghost use Rattle.dict_image.specs.ListedHits.{HaveBegun, ListedHitsSeen, listed_hits_behind};
+    ghost use Rattle.dict_image.specs.ListedHits.{IsKeyRange, ListedHitsView, listed_hits_after};
 
-    ghost Value = { ListedHitsSeen };
+    ghost Value = { ListedHitsView };
 
     ghost view = { λ it. record {
-      hits = listed_hits_behind it.keys it.text.now it.begun.length;
+      hits = listed_hits_after it.keys it.text.now it.started.length;
       text = it.text.now;
-      walked = it.begun.length;
+      walked = it.started.length;
     } };
 
-    ghost invariant = { λ it. HaveBegun it.keys it.text.now it.begun };
+    ghost invariant = { λ it. IsKeyRange it.keys it.text.now it.started };
 }
 
 impl<'a> ListedKeys<'a> {
-    /// The keys that begin a text.
+    /// Returns the keys that are prefixes of `text`.
     pub(crate) fn hits(self, text: &'a [u8]) -> ListedHits<'a>
-        ensures hits { result.hits ≡ listed_hits_behind self.entry text.now 0 }
+        ensures hits { result.hits ≡ listed_hits_after self.entry text.now 0 }
         ensures text { result.text ≡ text.now }
         ensures walked { result.walked ≡ 0 }
     {
-        let begun = self.all(text);
+        let started = self.all(text);
         ListedHits {
             keys: self,
             text,
-            begun,
+            started,
         }
     }
 }
@@ -59,27 +60,27 @@ impl<'a> Iterator for ListedHits<'a> {
     ghost remaining = { item_count (λ it. it.hits) };
 
     fn next(&mut self) -> Option<Hit> {
-        next_listed(&self.keys, self.text, &mut self.begun)
+        next_listed(&self.keys, self.text, &mut self.started)
     }
 }
 
-/// The next listed key that begins a text.
-fn next_listed(keys: &ListedKeys<'_>, text: &[u8], begun: &mut Begun) -> Option<Hit>
-    requires begun { HaveBegun keys.now text.now begun.old }
-    ensures begun { HaveBegun keys.now text.now begun.new }
+/// Returns the next listed key that is a prefix of `text`, and narrows `started`.
+fn next_listed(keys: &ListedKeys<'_>, text: &[u8], started: &mut KeyRange) -> Option<Hit>
+    requires key_range { IsKeyRange keys.now text.now started.old }
+    ensures key_range { IsKeyRange keys.now text.now started.new }
     ensures hits { YieldsFirstBy (λ hit. (hit.length, hit.value))
-        (λ b. listed_hits_behind keys.now text.now b.length) begun.old result begun.new }
-    ensures walked { begun.new.length
+        (λ b. listed_hits_after keys.now text.now b.length) started.old result started.new }
+    ensures walked { started.new.length
         ≡ walked_to text.now (option_map (λ hit. hit.length) result) }
 {
-    while begun.length < text.len() {
-        *begun = keys.narrow(*begun, text);
-        if let Some(value) = keys.whole(*begun, text) {
-            let length = begun.length;
+    while started.length < text.len() {
+        *started = keys.narrow(*started, text);
+        if let Some(value) = keys.whole(*started, text) {
+            let length = started.length;
             return Some(Hit { length, value });
         }
-        if begun.low == begun.high {
-            begun.length = text.len();
+        if started.low == started.high {
+            started.length = text.len();
         }
     }
     None

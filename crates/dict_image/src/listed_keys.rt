@@ -1,13 +1,14 @@
-//! Listed keys, looked up in the image's own bytes.
+//! Listed keys, looked up in the bytes of the image.
 ghost use Rattle.std.specs.Prelude.{◌≡◌, ℕ, ◌^◌, ◌<◌, ◌≤◌, length};
-ghost use Rattle.image_bytes.specs.OlderSections.{BeginWithKey, IsListedKey, front_key, listed_key, listed_number};
-ghost use Rattle.image_check.specs.KeyPlaces.{AreStarts};
+ghost use Rattle.image_format.specs.OlderSections.{StartWithKey, IsListedKey, first_key_in, listed_key, listed_number};
+ghost use Rattle.dict_image.specs.Validation.KeyPlaces.{AreStarts};
 ghost use Rattle.dict_image.specs.KeyLists.{IsFirstNotBelow};
 
-use image_bytes::u16_at;
+use image_format::u16_at;
 use std::marker::Model;
 
-/// Keys in rising byte order, each behind its length in 2 bytes, and the places where these lengths stand.
+/// Keys in rising byte order, each after its length in 2 bytes. `starts` are the byte offsets of
+/// these lengths.
 #[derive(Drop)]
 pub(crate) struct ListedKeys<'a> {
     bytes: &'a [u8],
@@ -16,7 +17,7 @@ pub(crate) struct ListedKeys<'a> {
 
 impl<'a> Model for ListedKeys<'a> {
     ghost use Rattle.std.specs.Prelude.{◌≤◌, ◌^◌, length};
-    ghost use Rattle.image_check.specs.KeyPlaces.{AreStarts};
+    ghost use Rattle.dict_image.specs.Validation.KeyPlaces.{AreStarts};
     ghost use Rattle.dict_image.specs.KeyLists.{KeyList};
 
     ghost Value = { KeyList };
@@ -36,7 +37,8 @@ impl<'a> ListedKeys<'a> {
         ListedKeys { bytes, starts }
     }
 
-    /// How many keys there are. Each stands above the one before it.
+    /// Returns the number of keys. Its contract also states that each key is greater than the one
+    /// before it.
     pub(crate) fn len(&self) -> usize
         ensures count { result ≡ self.now.count }
         ensures few { result ≤ 2 ^ 32 }
@@ -45,15 +47,15 @@ impl<'a> ListedKeys<'a> {
         self.starts.len()
     }
 
-    /// Key `i`.
+    /// Returns key `i`.
     pub(crate) fn key(&self, i: usize) -> &'a [u8]
         requires { i < self.now.count }
         ensures { result.now ≡ listed_key self.now.bytes i }
     {
-        key_in_front(&self.bytes[self.starts[i]..])
+        first_key(&self.bytes[self.starts[i]..])
     }
 
-    /// The number of the first key that does not stand below a text, by a binary search.
+    /// Returns the number of the first key that is not less than `text`. Runs a binary search.
     pub(crate) fn first_not_below(&self, text: &[u8]) -> usize
         ensures { IsFirstNotBelow self.now text.now result }
     {
@@ -70,7 +72,7 @@ impl<'a> ListedKeys<'a> {
         low
     }
 
-    /// The number of a key.
+    /// Returns the number of a key, if it is there.
     pub(crate) fn number_of(&self, key: &[u8]) -> Option<u32>
         ensures { result ≡ listed_number self.now.count self.now.bytes key.now }
     {
@@ -83,10 +85,10 @@ impl<'a> ListedKeys<'a> {
     }
 }
 
-/// The key that stands in front, behind its length.
-fn key_in_front(bytes: &[u8]) -> &[u8]
-    requires { BeginWithKey bytes.now }
-    ensures { result.now ≡ front_key bytes.now }
+/// Returns the key at the start of the bytes, after its length.
+fn first_key(bytes: &[u8]) -> &[u8]
+    requires { StartWithKey bytes.now }
+    ensures { result.now ≡ first_key_in bytes.now }
 {
     let length = u16_at(bytes, 0) as usize;
     &bytes[2..2 + length]

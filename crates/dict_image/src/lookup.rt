@@ -1,6 +1,6 @@
 //! Lookup in the lexicon.
 ghost use Rattle.std.specs.Prelude.{◌≡◌};
-ghost use Rattle.image_bytes.specs.ImageMeaning.{entries_under, image_tables};
+ghost use Rattle.image_format.specs.ImageMeaning.{entries_under, image_tables};
 ghost use Rattle.dict_image.specs.ImageKeys.{cells_of_keys};
 ghost use Rattle.dict_image.specs.Prefixes.{prefixes_in};
 
@@ -9,7 +9,7 @@ use crate::entries::Entries;
 use crate::hits::Prefixes;
 
 impl Dict {
-    /// The entries of a surface, in the order of their lines.
+    /// Returns the entries with the surface `key`, in the order of their source lines.
     pub fn entries(&self, key: &str) -> Entries<'_>
         ensures { result ≡ entries_under key.now (image_tables self.now).lexicon }
     {
@@ -19,7 +19,8 @@ impl Dict {
         }
     }
 
-    /// The surfaces that begin a text, the shortest first: their lengths in bytes, and their entries.
+    /// Returns the surfaces that are prefixes of `text`, the shortest first: their lengths in
+    /// bytes, and their entries. (Common prefix search)
     #[inline(always)]
     pub fn prefixes<'a>(&'a self, text: &'a str) -> Prefixes<'a>
         ensures prefixes { result.prefixes ≡ prefixes_in text.now (image_tables self.now).lexicon }

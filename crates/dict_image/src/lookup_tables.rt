@@ -1,17 +1,17 @@
-//! What a dictionary makes of an image when it is loaded, so that a search finds it at once.
+//! Tables that are built when an image is loaded, to speed up the search.
 ghost use Rattle.std.specs.Prelude.{IfOk};
-ghost use Rattle.dict_image.specs.Held.{AreLookupTables};
-ghost use Rattle.image_check.specs.Outlines.{IsOutline};
+ghost use Rattle.dict_image.specs.LookupState.{AreLookupTables};
+ghost use Rattle.dict_image.specs.Validation.Outlines.{IsOutline};
 
 use crate::categories::categories_of;
 use crate::cost_table::{CostTable, cost_table_of};
 use crate::info_table::{InfoTable, info_table_of};
-use image_bytes::{Section, section_bytes};
-use image_check::Outline;
+use crate::validation::Outline;
+use image_format::{Section, section_bytes};
 use mj_model::Category;
 use std::alloc::{AllocError, Global};
 
-/// Where connection costs and the categories of code points are looked up, and what the categories say, by their numbers.
+/// The tables of connection costs, categories of code points, and categories by number.
 #[derive(Drop)]
 pub(crate) struct LookupTables {
     pub costs: CostTable,
@@ -19,8 +19,9 @@ pub(crate) struct LookupTables {
     pub categories: Vec<Category>,
 }
 
-/// The lookup tables of an image. They take an entry of 4 bytes for each code point of the basic plane where the categories of code
-/// points stand in ranges, a copy of the connection costs where they are few, and 3 bytes for each category.
+/// Returns the lookup tables of an image. Allocates 4 bytes for each code point of the basic plane
+/// if section 3 has ranges, a copy of the connection costs if they are few, and 3 bytes for each
+/// category.
 pub(crate) fn lookup_tables_of(
     alloc: Global,
     bytes: &[u8],

@@ -1,22 +1,23 @@
-//! Context ids, numbered in the order in which they come.
+//! Context ids, numbered in the order in which they are added.
 ghost use Rattle.std.specs.Prelude.{◌≡◌, ◌<◌, [], length, slice_get, IfOk, OnErr, OnOk, Some};
-ghost use Rattle.dict_image.specs.NumberedIds.{AreBelow, AreNumbersOf, IsNoted};
+ghost use Rattle.dict_image.specs.NumberedIds.{AreBelow, AreNumbersOf, IsAdded};
 
 use std::alloc::{AllocError, Global};
 use std::marker::Model;
 
-/// So many ids are numbered at most. The connection costs between all of them then take 8 MiB.
+/// The greatest number of ids that get a number. The connection costs between that many left ids
+/// and right ids take 8 MiB.
 pub const NUMBERED_MAX: usize = 1 << 11;
 
-/// What stands for no number.
+/// The value that marks an id without a number.
 const NONE: u16 = u16::MAX;
 
-/// Context ids of one side, left or right, each once, with their numbers from 0 on in the order in which they were noted. Ids that come
-/// when there are `NUMBERED_MAX` get no number.
+/// Distinct context ids of one side, left or right, numbered from 0 in the order in which they were
+/// added. Ids after the first `NUMBERED_MAX` get no number.
 #[derive(Debug, Drop)]
 pub struct NumberedIds {
     ids: Vec<u16>,
-    /// For each id of a dictionary its number, or `NONE`.
+    /// The number of each id of the dictionary, or `NONE`.
     numbers: Vec<u16>,
 }
 
@@ -32,7 +33,7 @@ impl Model for NumberedIds {
 }
 
 impl NumberedIds {
-    /// None of the ids below this one. They take 2 bytes each.
+    /// Returns an empty collection for ids below `size`. Allocates 2 bytes for each of them.
     pub fn new(alloc: Global, size: u32) -> Result<NumberedIds, AllocError>
         ensures ids { IfOk result (λ made. made.ids ≡ []) }
         ensures size { IfOk result (λ made. made.size ≡ size) }
@@ -45,11 +46,12 @@ impl NumberedIds {
         })
     }
 
-    /// Numbers an id of the dictionary, if it has no number yet.
-    pub fn note(&mut self, id: u16) -> Result<(), AllocError>
+    /// Gives `id` the next number, unless it has one, is not below the size, or `NUMBERED_MAX` ids
+    /// have one.
+    pub fn add(&mut self, id: u16) -> Result<(), AllocError>
         ensures size { self.new.size ≡ self.old.size }
-        ensures noted { OnOk result (IsNoted self.old id self.new) }
-        ensures kept { OnErr result (self.new.ids ≡ self.old.ids) }
+        ensures added { OnOk result (IsAdded self.old id self.new) }
+        ensures unchanged { OnErr result (self.new.ids ≡ self.old.ids) }
     {
         let number = self.ids.len();
         let at = usize::from(id);
@@ -64,7 +66,7 @@ impl NumberedIds {
         Ok(())
     }
 
-    /// The number of an id, or one that no id has.
+    /// Returns the number of an id, or a number that no id has.
     #[inline(always)]
     pub fn number(&self, id: usize) -> usize
         requires { id < self.now.size }
@@ -73,7 +75,7 @@ impl NumberedIds {
         usize::from(self.numbers[id])
     }
 
-    /// The number of each id of the dictionary, or one that no id has.
+    /// Returns for each id of the dictionary its number, or a number that no id has.
     #[inline(always)]
     pub fn numbers(&self) -> &[u16]
         ensures numbers { AreNumbersOf self.now.ids result.now }
@@ -82,7 +84,7 @@ impl NumberedIds {
         &self.numbers
     }
 
-    /// The ids in the order of their numbers.
+    /// Returns the ids in the order of their numbers.
     pub fn ids(&self) -> &[u16]
         ensures ids { result.now ≡ self.now.ids }
         ensures below { AreBelow self.now.size self.now.ids }

@@ -1,26 +1,27 @@
-//! The section of the categories of code points.
+//! Access to the ranges of the section of code points.
 ghost use Rattle.std.specs.Prelude.{◌≡◌, ◌+◌, ◌*◌, ◌<◌, IsTrue};
-ghost use Rattle.image_bytes.specs.ImageSections.{stored_info};
+ghost use Rattle.image_format.specs.ImageSections.{stored_info};
 ghost use Rattle.dict_image.specs.Ranges.{AreInOrder, IsLastUpTo};
 
 use crate::infos::info_of;
-use image_bytes::u32_at;
+use image_format::u32_at;
 use mj_model::CharInfo;
 
-/// The categories of a code point. The range with the number `near` is asked first, and then found by a binary search; `near` becomes the
-/// number of the range that has the code point.
+/// Returns the categories of a code point. `near` is the number of the range that is tried first;
+/// it is set to the range found. Otherwise runs a binary search.
 pub(crate) fn info_at(ranges: &[u8], code: u32, near: &mut usize) -> CharInfo
     requires { AreInOrder ranges.now }
     ensures info { result ≡ stored_info ranges.now code }
-    ensures near { IsLastUpTo ranges.now code near.new }
+    ensures hinted { IsLastUpTo ranges.now code near.new }
 {
-    let i = last_near(ranges, code, *near);
+    let i = last_with_hint(ranges, code, *near);
     *near = i;
     info_of(u32_at(ranges, 8 * i + 4))
 }
 
-/// The number of the last range that begins at or before a code point: where it is `near`, nothing is searched.
-fn last_near(ranges: &[u8], code: u32, near: usize) -> usize
+/// Returns the number of the last range that starts at or before a code point. Does not search if
+/// it is `near`.
+fn last_with_hint(ranges: &[u8], code: u32, near: usize) -> usize
     requires { AreInOrder ranges.now }
     ensures { IsLastUpTo ranges.now code result }
 {
@@ -31,7 +32,7 @@ fn last_near(ranges: &[u8], code: u32, near: usize) -> usize
     }
 }
 
-/// Whether range `i` is there and has the code point.
+/// Returns whether range `i` exists and contains the code point.
 fn is_last_up_to(ranges: &[u8], code: u32, i: usize) -> bool
     ensures { IsTrue result → IsLastUpTo ranges.now code i }
 {
@@ -41,7 +42,8 @@ fn is_last_up_to(ranges: &[u8], code: u32, i: usize) -> bool
         && (count - i == 1 || code < u32_at(ranges, 8 * (i + 1)))
 }
 
-/// The number of the last range that begins at or before a code point.
+/// Returns the number of the last range that starts at or before a code point. Runs a binary
+/// search.
 fn last_up_to(ranges: &[u8], code: u32) -> usize
     requires { AreInOrder ranges.now }
     ensures { IsLastUpTo ranges.now code result }

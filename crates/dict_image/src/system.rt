@@ -1,7 +1,7 @@
-//! What a system dictionary says besides its lexicon.
+//! The parts of a system dictionary besides its lexicon.
 ghost use Rattle.std.specs.Prelude.{◌≡◌, ◌<◌, Some, length, slice_get, IsTrue};
 ghost use Rattle.mj_model.specs.Connection.{is_pair};
-ghost use Rattle.image_bytes.specs.ImageMeaning.{image_tables};
+ghost use Rattle.image_format.specs.ImageMeaning.{image_tables};
 ghost use Rattle.mj_model.specs.Tables.{System};
 ghost use Rattle.dict_image.specs.Categories.{category_names};
 
@@ -10,12 +10,12 @@ use crate::dict::Dict;
 use crate::entries::Entries;
 use crate::info_table::{InfoTable, plane_info};
 use crate::infos::listed_at;
-use image_bytes::Section::{Categories, Features, Infos, Tokens, UnknownIndex};
+use image_format::Section::{Categories, Features, Infos, Tokens, UnknownIndex};
 use mj_model::{Category, CharInfo};
 
 impl Dict {
-    /// What it costs to set a word of left id `next_left` behind one of right id `prev_right`. Smaller is preferred, and
-    /// BOS and EOS have id 0. (MeCab, `matrix.def`)
+    /// Returns the cost of connecting a word with right id `prev_right` to a following word with
+    /// left id `next_left`. Smaller is preferred, and BOS and EOS have id 0. (MeCab, `matrix.def`)
     #[inline(always)]
     pub fn cost(&self, prev_right: u16, next_left: u16) -> i16
         requires system { (image_tables self.now).kind ≡ System }
@@ -25,7 +25,8 @@ impl Dict {
         self.costs_before(next_left).after(usize::from(prev_right))
     }
 
-    /// The categories of a character. Those of one beyond the basic plane take the time of a binary search at most.
+    /// Returns the categories of a character. Runs at most a binary search, and only beyond the
+    /// basic plane.
     #[inline(always)]
     pub fn info(&self, c: char) -> CharInfo
         requires { (image_tables self.now).kind ≡ System }
@@ -33,13 +34,14 @@ impl Dict {
         ensures first { result.head < length (image_tables self.now).categories }
     {
         let mut near = 0;
-        self.info_near(c, &mut near)
+        self.info_with_hint(c, &mut near)
     }
 
-    /// The same, for characters in turn. `near` is the number of the range of code points that was found last: it is asked first, and only
-    /// where it doesn't have the character another one is searched. It may be any number; in the basic plane it is not looked at.
+    /// Returns the categories of a character, for a caller that reads many in turn. `near` is the
+    /// number of the range found last, which is tried first; any value is allowed. It is not used
+    /// in the basic plane.
     #[inline(always)]
-    pub fn info_near(&self, c: char, near: &mut usize) -> CharInfo
+    pub fn info_with_hint(&self, c: char, near: &mut usize) -> CharInfo
         requires { (image_tables self.now).kind ≡ System }
         ensures info { result ≡ (image_tables self.now).info c }
         ensures first { result.head < length (image_tables self.now).categories }
@@ -51,14 +53,14 @@ impl Dict {
         }
     }
 
-    /// How many categories there are.
+    /// Returns the number of categories.
     pub fn category_count(&self) -> usize
         ensures { result ≡ length (image_tables self.now).categories }
     {
         self.header().categories as usize
     }
 
-    /// Category `i`.
+    /// Returns category `i`.
     #[inline(always)]
     pub fn category(&self, i: usize) -> Category
         requires { i < length (image_tables self.now).categories }
@@ -67,7 +69,7 @@ impl Dict {
         self.categories()[i]
     }
 
-    /// The name of category `i`.
+    /// Returns the name of category `i`. Linear in `i`.
     pub fn category_name(&self, i: usize) -> &str
         requires { i < length (image_tables self.now).categories }
         ensures { slice_get (category_names self.now) i ≡ Some result.now }
@@ -75,7 +77,7 @@ impl Dict {
         name_of(from_category(self.section(Categories), i))
     }
 
-    /// The unknown entries of category `i`. There is at least one.
+    /// Returns the unknown entries of category `i`, of which there is at least one.
     #[inline(always)]
     pub fn unknown(&self, i: usize) -> Entries<'_>
         requires { i < length (image_tables self.now).categories }

@@ -1,10 +1,23 @@
-//! `dictc`: compiles dictionary sources to images, and tells the ids and costs of an image's entries.
+//! `dictc`: compiles dictionary sources to images, and prints the ids and costs of an image's
+//! entries.
 #![tactic(auto)]
 
-use dictc_work::{do_asked, options_given, say_more};
-use programs::run_program;
+use dictc_lib::{print_hints, read_command, run_command};
+use messages::dictc::texts;
+use messages::subjects;
+use programs::{arguments, run_program};
 use std::process::ExitCode;
 
 fn main(rt: HostRuntime) -> ExitCode {
-    run_program(&rt, "dictc", options_given, do_asked, say_more)
+    let explanations = subjects();
+    let texts = texts(&explanations);
+    let words = arguments(&rt, "dictc");
+    run_program(
+        &rt,
+        "dictc",
+        words,
+        |rt, words| read_command(rt, words, &texts),
+        run_command,
+        print_hints,
+    )
 }

@@ -1,5 +1,6 @@
-//! Tests of images: what is written, what is loaded and what is refused. Nothing else stands here: a crate with tests is proved once with
-//! them and once without.
+//! Tests of images: how they are written, loaded and rejected.
+//!
+//! The crate has only tests, because a crate with tests is proved twice: with them and without.
 #![tactic(auto)]
 
 #[cfg(test)]

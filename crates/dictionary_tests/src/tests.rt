@@ -1,4 +1,4 @@
-//! What the public calls of each crate answer.
+//! Tests of the public calls, grouped by crate.
 mod of_dict_compile;
 mod of_dict_image;
 mod of_image_writer;

@@ -1,14 +1,14 @@
--- A move of a state's children keeps the map, the cell rules and that every used cell is a step of a key. A move is a
--- renaming: a child of s by code c is renamed to b + c, and every other used cell keeps its number. Steps are kept by it both
--- ways, so walks are, and a value cell keeps its base. No walk leads back to its cell, so s is neither its own child nor a
--- child of its child.
+-- A move of a state's children keeps the map, the invariants, and that every used cell lies on the
+-- walk of a key. A move is a renaming: a child of s with code c becomes b + c, and every other used
+-- cell keeps its number. It keeps steps in both directions, and so walks; a value cell keeps its
+-- base. No walk leads back to its cell, so that s is neither its own child nor a grandchild.
 use Rattle.std.proofs.Common.{◌≡◌, ℕ, zero, suc, ◌+◌, ◌-◌, ◌<◌, ◌≤◌, ℤ, pos, negsuc, ◌+ℤ◌, List, [], ◌∷◌, length, Some, ◌⊎◌, inl, inr, sym, ap, ◌∙◌, refl, arith, subst}
 use Rattle.std.proofs.lemmas.Bool.{cases_eq, cases_lt}
 use Rattle.std.proofs.lemmas.Option.{same_Some}
-use Rattle.cell_walk.specs.CellMap.{Cell, free_cell, cell_at, base, check, step, walk, value_of, codes_of, HasSameMap}
-use Rattle.cell_walk.specs.CellRules.{IsBaseAfter, IsUsed, MeetsRules, AreOnKeys}
+use Rattle.mj_model.specs.CellMap.{Cell, free_cell, cell_at, base, check, step, walk, value_of, codes_of, HasSameMap}
+use Rattle.mj_model.specs.CellRules.{IsBaseAfter, IsUsed, MeetsRules, AreOnKeys}
 use Rattle.double_array.specs.CellMoves.{IsApart, IsMove, IsKept, MovesKeepTheMap}
-use Rattle.cell_walk.proofs.CellWalks.{step_parts, step_from, step_place, step_named, step_at, IsChild, child_of, walk_one, walk_none, walk_first, leads_back, no_way_back, value_parts, value_from, same_value}
+use Rattle.mj_model.proofs.CellWalks.{step_parts, step_from, step_place, step_named, step_at, IsChild, child_of, walk_one, walk_none, walk_first, leads_back, no_way_back, value_parts, value_from, same_value}
 use Rattle.mj_model.proofs.Basics.{same_pos}
 
 pub cases_pos : (z : ℤ) (s : ℕ) → (z ≡ pos s) ⊎ (z ≡ pos s → ⊥)
@@ -59,7 +59,7 @@ module _ (values : ℕ) (old new : List Cell) (s b : ℕ) (rules : MeetsRules va
       let j = child_of values old x s rules above in
       no_way_back values old way.0 s i.0 (j.code ∷ []) rules way.1 (walk_one old s i.0 (j.code ∷ []) x i.1 ∙ walk_one old x j.code [] s j.led ∙ walk_none old s)
 
-  -- the number that a used cell gets
+  -- the new number of a used cell
   abbrev pub Renames : ℕ → ℕ → Type 0
   Renames t u = ((c : ℕ) × (step old s c ≡ Some t) × (u ≡ b + c)) ⊎ ((check old t ≡ pos s → ⊥) × (u ≡ t))
 
@@ -113,7 +113,7 @@ module _ (values : ℕ) (old new : List Cell) (s b : ℕ) (rules : MeetsRules va
     | inr no_s ↦ ap (λ (x : Cell). x.1) (move.apart t (apart_of t no_s no_child busy no_grand))
   ]
 
-  -- a used cell's new base is its old one, but for s
+  -- the new base of a used cell is its old one, except for s
   pub renamed_base : (t u : ℕ) → InUse t → (t ≡ s → ⊥) → Renames t u → base new u ≡ base old t
   renamed_base t u busy no_s (inl i) = subst (λ (k : ℕ). base new k ≡ base old t) (sym i.2) (ap (λ (x : Cell). x.0) (move.child i.0 t i.1))
   renamed_base t u busy no_s (inr i) = subst (λ (k : ℕ). base new k ≡ base old t) (sym i.1) (base_kept t no_s i.0 busy)
@@ -160,7 +160,7 @@ module _ (values : ℕ) (old new : List Cell) (s b : ℕ) (rules : MeetsRules va
       let k = walk_moves f.0 g.0 cs t (inr (u, step_named old u c f.0 f.1)) g.1 f.2 in
       (k.0, k.1, walk_one new v c cs g.0 g.2 ∙ k.2)
 
-  -- ---- each cell of the new list: what it was
+  -- ---- each cell of the new list, by its old content
 
   data Origin (t : ℕ) : Type 0 where
     new_child : (c x : ℕ) → step old s c ≡ Some x → t ≡ b + c → Origin t
@@ -255,7 +255,7 @@ module _ (values : ℕ) (old new : List Cell) (s b : ℕ) (rules : MeetsRules va
         renames_state = inr ((λ h. let i = child_step v h in a.no_grandchild i.0 v i.1 above), refl);
       }
 
-  -- a used cell's number was that of one used cell
+  -- two used cells with the same new number are the same
   renamed_from_one : (t u v : ℕ) → InUse t → InUse u → Renames t v → Renames u v → t ≡ u
   renamed_from_one t u v t_busy u_busy (inl i) (inl j) =
       let e : i.0 ≡ j.0 = let p = i.2 in let q = j.2 in omega (arith, p, q) in
@@ -462,7 +462,7 @@ module _ (values : ℕ) (old new : List Cell) (s b : ℕ) (rules : MeetsRules va
   pub all_is_kept : IsKept values old new
   all_is_kept = record { map = map_is_kept; rules = rules_are_kept; on_keys = keys_are_kept }
 
-  -- a walk from the root leads to the new number of where it led
+  -- a walk from the root leads to the new number of its old end
   pub walk_renamed : (cs : List ℕ) (t u : ℕ) → walk old 0 cs ≡ Some t → Renames t u → walk new 0 cs ≡ Some u
   walk_renamed cs t u h r = let g = walk_moves 0 0 cs t (inl refl) root_stays h in g.2 ∙ ap Some (renames_one t g.0 u g.1 r)
 

@@ -2,13 +2,13 @@
 use Rattle.std.proofs.Common.{◌≡◌, ◌≢◌, ℕ, zero, suc, ◌+◌, ◌-◌, ◌≤◌, pos, negsuc, Bool, true, List, [], ◌∷◌, ◌++◌, length, set, Some, None, ◌⊎◌, inl, inr, sym, ap, ◌∙◌, refl, arith}
 use Rattle.std.proofs.lemmas.List.{append-nil}
 use Rattle.std.proofs.lemmas.Option.{same_Some, none-some}
-use Rattle.cell_walk.specs.CellMap.{Cell, free_cell, cell_at, base, check, step, walk, codes_of, value_of}
+use Rattle.mj_model.specs.CellMap.{Cell, free_cell, cell_at, base, check, step, walk, codes_of, value_of}
 use Rattle.double_array.specs.CellMoves.{IsMove, IsApart, IsKept}
-use Rattle.cell_walk.proofs.CellWalks.{step_named, step_place, IsChild, child_of, walk_none, walk_first, walk_append, value_parts}
+use Rattle.mj_model.proofs.CellWalks.{step_named, step_place, IsChild, child_of, walk_none, walk_first, walk_append, value_parts}
 use Rattle.double_array.proofs.CellMoveLaw.{free_no_check, free_no_base, Renames, renamed_base, all_is_kept, walk_renamed}
 use Rattle.double_array.specs.Pool.{Pool}
 use Rattle.double_array.specs.Family.{HasCode, FitsAt}
-use Rattle.double_array.specs.Built.{values, AreBases, HasUsed, IsBuilt, IsCleared}
+use Rattle.double_array.specs.Built.{values, AreBases, HasUsed, MeetsInvariants, IsCleared}
 use Rattle.double_array.specs.Moves.{IsFamilyOf}
 use Rattle.double_array.proofs.FamilyLemmas.{relocation, with_code, set_here}
 use Rattle.double_array.proofs.Moving.{based_within, no_self_child}
@@ -28,7 +28,7 @@ on_after cells s front (c ∷ back) key v from whole led there at =
     (c, f.0, f.1)
 
 -- every state but the root has a child
-pub has_child_there : (pool : Pool) (n from : ℕ) → IsBuilt pool → base pool.cells (suc n) ≡ pos from → 2 ≤ from → (c : ℕ) × (u : ℕ) × (step pool.cells (suc n) c ≡ Some u)
+pub has_child_there : (pool : Pool) (n from : ℕ) → MeetsInvariants pool → base pool.cells (suc n) ≡ pos from → 2 ≤ from → (c : ℕ) × (u : ℕ) × (step pool.cells (suc n) c ≡ Some u)
 has_child_there pool n from built at some =
     elim (built.rules.others (suc n) (omega arith) (based_within pool.cells (suc n) from at (omega (arith, some)))) [
       | inl free ↦ absurd (free_no_base pool.cells (suc n) from free at (omega (arith, some)))
@@ -36,14 +36,14 @@ has_child_there pool n from built at some =
           let k = built.on_keys (suc n) u.state u.named in on_after pool.cells (suc n) k.front k.back k.key k.value from k.codes k.led k.there at
     ]
 
--- and so has the root where some cell is used
-pub has_child : (pool : Pool) (s from t q : ℕ) → IsBuilt pool → base pool.cells s ≡ pos from → 2 ≤ from → check pool.cells t ≡ pos q → (c : ℕ) × (u : ℕ) × (step pool.cells s c ≡ Some u)
+-- the root has one too, if some cell is used
+pub has_child : (pool : Pool) (s from t q : ℕ) → MeetsInvariants pool → base pool.cells s ≡ pos from → 2 ≤ from → check pool.cells t ≡ pos q → (c : ℕ) × (u : ℕ) × (step pool.cells s c ≡ Some u)
 has_child pool zero from t q built at some used =
     let k = built.on_keys t q used in
     on_after pool.cells 0 [] (codes_of k.key) k.key k.value from refl (walk_none pool.cells 0) k.there at
 has_child pool (suc n) from t q built at some used = has_child_there pool n from built at some
 
-pub has_code : (pool : Pool) (s from t q : ℕ) (family : List Bool) → IsBuilt pool → base pool.cells s ≡ pos from → 2 ≤ from → check pool.cells t ≡ pos q → IsFamilyOf pool.cells s from family → (c : ℕ) × HasCode family c
+pub has_code : (pool : Pool) (s from t q : ℕ) (family : List Bool) → MeetsInvariants pool → base pool.cells s ≡ pos from → 2 ≤ from → check pool.cells t ≡ pos q → IsFamilyOf pool.cells s from family → (c : ℕ) × HasCode family c
 has_code pool s from t q family built at some used is =
     let h = has_child pool s from t q built at some used in
     let i = child_of values pool.cells s h.1 built.rules (step_named pool.cells s h.0 h.1 h.2) in
@@ -51,7 +51,7 @@ has_code pool s from t q family built at some used is =
     let same : i.code ≡ h.0 = let a = i.place in let b = step_place pool.cells s i.code h.1 from i.led at in omega (arith, b, place) in
     (h.0, is.complete h.0 (let n = i.near in omega (arith, n, same)) (ap (check pool.cells) (sym place) ∙ step_named pool.cells s h.0 h.1 h.2))
 
-pub in_use : (pool : Pool) (s from : ℕ) → IsBuilt pool → base pool.cells s ≡ pos from → 2 ≤ from → (s ≡ 0) ⊎ ((q : ℕ) × (check pool.cells s ≡ pos q))
+pub in_use : (pool : Pool) (s from : ℕ) → MeetsInvariants pool → base pool.cells s ≡ pos from → 2 ≤ from → (s ≡ 0) ⊎ ((q : ℕ) × (check pool.cells s ≡ pos q))
 in_use pool zero from built at some = inl refl
 in_use pool (suc n) from built at some =
     elim (built.rules.others (suc n) (omega arith) (based_within pool.cells (suc n) from at (omega (arith, some)))) [
@@ -70,7 +70,7 @@ used_after old new s to move =
 pub fits_less : (cells : List Cell) (family : List Bool) (code to : ℕ) → FitsAt cells (set family code true) to → FitsAt cells family to
 fits_less cells family code to fits c h = fits c (with_code family code c h)
 
-module _ (old new : Pool) (s from code to : ℕ) (family : List Bool) (built : IsBuilt old) (at : base old.cells s ≡ pos from) (some : 2 ≤ from) (near : code ≤ 256) (none : step old.cells s code ≡ None)
+module _ (old new : Pool) (s from code to : ℕ) (family : List Bool) (built : MeetsInvariants old) (at : base old.cells s ≡ pos from) (some : 2 ≤ from) (near : code ≤ 256) (none : step old.cells s code ≡ None)
     (is : IsFamilyOf old.cells s from family) (fits : FitsAt old.cells (set family code true) to) (least : 2 ≤ to) (below : to ≤ old.top) (room : old.top + 514 ≤ length old.cells)
     (move : IsMove old.cells new.cells s to) (bases : AreBases new) (root : (b : ℕ) × (base new.cells 0 ≡ pos b) × (2 ≤ b)) (top : new.top ≤ old.top + 257) where
   own_kept : IsKept values old.cells new.cells
@@ -97,7 +97,7 @@ module _ (old new : Pool) (s from code to : ℕ) (family : List Bool) (built : I
       on_keys = own_kept.on_keys;
       bases = bases;
       root = root;
-      begun = inl (used_after old.cells new.cells s to move);
+      started = inl (used_after old.cells new.cells s to move);
       room = let l = move.same_length in omega (arith, l, top, room);
       few = let l = move.same_length in let f = built.few in omega (arith, l, f);
     };
@@ -110,9 +110,9 @@ module _ (old new : Pool) (s from code to : ℕ) (family : List Bool) (built : I
     long = move.same_length;
   }
 
--- ---- the other state's children move, and with them the state, if it is one
+-- ---- the other state's children move, and with them the state, if it is one of them
 
-module _ (old new : Pool) (s from code other other_from to follow : ℕ) (family : List Bool) (built : IsBuilt old) (at : base old.cells s ≡ pos from) (some : 2 ≤ from) (near : code ≤ 256) (used : check old.cells (from + code) ≡ pos other) (apart : s ≢ other)
+module _ (old new : Pool) (s from code other other_from to follow : ℕ) (family : List Bool) (built : MeetsInvariants old) (at : base old.cells s ≡ pos from) (some : 2 ≤ from) (near : code ≤ 256) (used : check old.cells (from + code) ≡ pos other) (apart : s ≢ other)
     (room : old.top + 514 ≤ length old.cells)
     (move : IsMove old.cells new.cells other to) (bases : AreBases new) (root : (b : ℕ) × (base new.cells 0 ≡ pos b) × (2 ≤ b)) (top : new.top ≤ old.top + 257)
     (renames : Renames values old.cells new.cells other to built.rules built.on_keys move s follow) where
@@ -129,7 +129,7 @@ module _ (old new : Pool) (s from code other other_from to follow : ℕ) (family
       on_keys = other_kept.on_keys;
       bases = bases;
       root = root;
-      begun = inl (used_after old.cells new.cells other to move);
+      started = inl (used_after old.cells new.cells other to move);
       room = let l = move.same_length in omega (arith, l, top, room);
       few = let l = move.same_length in let f = built.few in omega (arith, l, f);
     };
@@ -142,8 +142,8 @@ module _ (old new : Pool) (s from code other other_from to follow : ℕ) (family
     long = move.same_length;
   }
 
--- where the state goes
-pub goes_along : (old new : Pool) (s other other_from to : ℕ) (built : IsBuilt old) (move : IsMove old.cells new.cells other to) → base old.cells other ≡ pos other_from → check old.cells s ≡ pos other → Renames values old.cells new.cells other to built.rules built.on_keys move s (to + (s - other_from))
+-- the state's new number
+pub goes_along : (old new : Pool) (s other other_from to : ℕ) (built : MeetsInvariants old) (move : IsMove old.cells new.cells other to) → base old.cells other ≡ pos other_from → check old.cells s ≡ pos other → Renames values old.cells new.cells other to built.rules built.on_keys move s (to + (s - other_from))
 goes_along old new s other other_from to built move at named =
     let i = child_of values old.cells other s built.rules named in
     let place = step_place old.cells other i.code s other_from i.led at in

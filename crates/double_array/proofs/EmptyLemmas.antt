@@ -1,13 +1,13 @@
 -- The empty array: the root and free cells.
 use Rattle.std.proofs.Common.{◌≡◌, ℕ, zero, suc, ◌<◌, ◌≤◌, pos, negsuc, List, [], ◌∷◌, Some, None, inl, inr, sym, ap, ◌∙◌, arith}
 use Rattle.std.proofs.lemmas.Option.{same_Some}
-use Rattle.cell_walk.specs.CellMap.{Cell, base, check, walk, codes_of, value_of}
-use Rattle.cell_walk.specs.CellRules.{MeetsRules}
-use Rattle.cell_walk.proofs.CellWalks.{step_named, walk_first, walk_none, value_parts, no_value}
+use Rattle.mj_model.specs.CellMap.{Cell, base, check, walk, codes_of, value_of}
+use Rattle.mj_model.specs.CellRules.{MeetsRules}
+use Rattle.mj_model.proofs.CellWalks.{step_named, walk_first, walk_none, value_parts, no_value}
 use Rattle.double_array.proofs.CellMoveLaw.{free_no_check}
 use Rattle.mj_model.proofs.Basics.{same_pos}
 use Rattle.double_array.specs.Pool.{Pool, IsEmpty}
-use Rattle.double_array.specs.Built.{values, IsBuilt}
+use Rattle.double_array.specs.Built.{values, MeetsInvariants}
 
 no_cell_is_used : (pool : Pool) (t s : ℕ) → IsEmpty pool → check pool.cells t ≡ pos s → ⊥
 no_cell_is_used pool zero s empty named = let e : negsuc 1 ≡ pos s = sym (ap (λ (x : Cell). x.1) empty.root) ∙ named in cc
@@ -30,7 +30,7 @@ empty_rules pool empty = record {
   others = λ t above less. inl (empty.free t above);
 }
 
-pub empty_is_built : (pool : Pool) → IsEmpty pool → IsBuilt pool
+pub empty_is_built : (pool : Pool) → IsEmpty pool → MeetsInvariants pool
 empty_is_built pool empty =
     let long = empty.long in
     let top = empty.top_is in
@@ -39,7 +39,7 @@ empty_is_built pool empty =
       on_keys = λ t s named. absurd (no_cell_is_used pool t s empty named);
       bases = bases_of;
       root = (2, ap (λ (x : Cell). x.0) empty.root, omega arith);
-      begun = inr (ap (λ (x : Cell). x.0) empty.root);
+      started = inr (ap (λ (x : Cell). x.0) empty.root);
       room = omega (arith, long, top);
       few = omega (arith, long);
     }

@@ -3,13 +3,13 @@ use Rattle.std.proofs.Common.{◌≡◌, ◌≢◌, ℕ, ◌+◌, ◌<◌, ◌�
 use Rattle.std.proofs.lemmas.Bool.{cases_eq}
 use Rattle.std.proofs.lemmas.List.{length-set, get_or-set_same, get_or-set_other}
 use Rattle.std.proofs.lemmas.Option.{slice_get-get_or, get_or_from_slice_get, slice_get_within}
-use Rattle.cell_walk.specs.CellMap.{Cell, base, check}
-use Rattle.double_array.specs.Built.{IsBuilt, values}
+use Rattle.mj_model.specs.CellMap.{Cell, base, check}
+use Rattle.double_array.specs.Built.{MeetsInvariants, values}
 use Rattle.double_array.specs.Family.{FitsAt, HasCode}
 use Rattle.double_array.specs.Moves.{IsFamilyOf, IsRelocation}
 use Rattle.double_array.specs.Pool.{Pool}
 
--- below n the family is that of the codes of children
+-- below n the family has the codes of children
 pub record IsFamilyBelow (cells : List Cell) (s from : ℕ) (family : List Bool) (n : ℕ) : Type 0 where
   pub long : length family ≡ 257
   pub sound : (k : ℕ) → k < n → HasCode family k → check cells (from + k) ≡ pos s
@@ -33,7 +33,7 @@ with_code family code k h = elim (cases_eq k code) [
 pub code_by : (family : List Bool) (k : ℕ) → length family ≡ 257 → k < 257 → get_or family k false ≡ true → HasCode family k
 code_by family k long less at = slice_get-get_or family k false (omega (arith, long, less)) ∙ ap Some at
 
--- the family of a state of a built array may move to where it fits
-pub relocation : {pool : Pool} {s from to : ℕ} {family : List Bool} → IsBuilt pool → base pool.cells s ≡ pos from → 2 ≤ from → IsFamilyOf pool.cells s from family
+-- the family of a state of a built array may move to a base that it fits
+pub relocation : {pool : Pool} {s from to : ℕ} {family : List Bool} → MeetsInvariants pool → base pool.cells s ≡ pos from → 2 ≤ from → IsFamilyOf pool.cells s from family
     → FitsAt pool.cells family to → IsRelocation values pool.cells s from to family
 relocation built based least family fits = record { rules = built.rules; keys = built.on_keys; based = based; some = omega (arith, least); is = family; fits = fits }

@@ -3,14 +3,14 @@ use Rattle.std.proofs.Common.{◌≡◌, ◌≢◌, ℕ, ◌+◌, ◌<◌, ◌�
 use Rattle.std.proofs.lemmas.Bool.{cases_eq}
 use Rattle.std.proofs.lemmas.List.{length-set, append_assoc}
 use Rattle.std.proofs.lemmas.Option.{same_Some}
-use Rattle.cell_walk.specs.CellMap.{Cell, free_cell, cell_at, base, check, step, walk, codes_of, value_of, HasSameMap, IsMapWith}
-use Rattle.cell_walk.specs.CellRules.{IsBaseAfter, MeetsRules, IsOnKey, AreOnKeys}
-use Rattle.cell_walk.proofs.CellWalks.{step_parts, step_from, step_named, step_at, child_of, walk_one, walk_none, walk_first, walk_more, walk_is_one, leads_back, IsValueAt, value_parts, value_from, same_value}
+use Rattle.mj_model.specs.CellMap.{Cell, free_cell, cell_at, base, check, step, walk, codes_of, value_of, HasSameMap, IsMapWith}
+use Rattle.mj_model.specs.CellRules.{IsBaseAfter, MeetsRules, IsOnKey, AreOnKeys}
+use Rattle.mj_model.proofs.CellWalks.{step_parts, step_from, step_named, step_at, child_of, walk_one, walk_none, walk_first, walk_more, walk_is_one, leads_back, IsValueAt, value_parts, value_from, same_value}
 use Rattle.double_array.proofs.CellMoveLaw.{free_no_check, free_no_base}
 use Rattle.mj_model.proofs.Basics.{same_pos}
-use Rattle.double_array.specs.Tail.{IsOnWay, AreOnKeysOrWay}
-use Rattle.double_array.proofs.SeenLemmas.{at_same, at_other}
-use Rattle.cell_walk.proofs.KeyWalks.{same_key}
+use Rattle.double_array.specs.Tail.{IsOnTail, AreOnKeysOrTail}
+use Rattle.double_array.proofs.ViewLemmas.{at_same, at_other}
+use Rattle.mj_model.proofs.KeyWalks.{same_key}
 use Rattle.double_array.proofs.Moving.{based_within}
 
 module _ (values : ℕ) (old : List Cell) (s c t from : ℕ) (z : ℤ) (rules : MeetsRules values old) (based : base old s ≡ pos from) (some : 1 ≤ from) (near : c ≤ 256) (place : t ≡ from + c)
@@ -144,11 +144,11 @@ module _ (values : ℕ) (old : List Cell) (s c t from : ℕ) (z : ℤ) (rules : 
       let led = walk_stays 0 k.front u k.led in
       record { key = k.key; value = k.value; there = value_stays k.key k.value k.there; front = k.front; back = k.back; codes = k.codes; led = led; back_to_root = leads_back new k.front u led }
 
-  on_way_stays : (codes : List ℕ) (u : ℕ) → IsOnWay old codes u → IsOnWay new codes u
+  on_way_stays : (codes : List ℕ) (u : ℕ) → IsOnTail old codes u → IsOnTail new codes u
   on_way_stays codes u k = record { front = k.front; back = k.back; whole = k.whole; led = walk_stays 0 k.front u k.led }
 
-  -- the new cell is on the way of the codes that led to its state
-  pub leaf_on_way : (codes front back : List ℕ) → codes ≡ front ++ c ∷ back → walk old 0 front ≡ Some s → AreOnKeysOrWay old codes → AreOnKeysOrWay new codes
+  -- the new cell is on the walk of the codes that lead to its state
+  pub leaf_on_way : (codes front back : List ℕ) → codes ≡ front ++ c ∷ back → walk old 0 front ≡ Some s → AreOnKeysOrTail old codes → AreOnKeysOrTail new codes
   leaf_on_way codes front back whole led keys u q named = elim (cases_eq u t) [
     | inl e ↦ inr (record {
       front = front ++ c ∷ [];
@@ -162,8 +162,8 @@ module _ (values : ℕ) (old : List Cell) (s c t from : ℕ) (z : ℤ) (rules : 
     ]
   ]
 
--- where the codes are those of a key of the map, every used cell is a step of a key
-pub on_way_is_on_key : (cells : List Cell) (key : List ℕ) (v : ℕ) → value_of cells key ≡ Some v → AreOnKeysOrWay cells (codes_of key) → AreOnKeys cells
+-- if the codes are those of a key of the map, every used cell lies on the walk of a key
+pub on_way_is_on_key : (cells : List Cell) (key : List ℕ) (v : ℕ) → value_of cells key ≡ Some v → AreOnKeysOrTail cells (codes_of key) → AreOnKeys cells
 on_way_is_on_key cells key v there keys t q named = elim (keys t q named) [
   | inl k ↦ k
   | inr w ↦ record { key = key; value = v; there = there; front = w.front; back = w.back; codes = w.whole; led = w.led; back_to_root = leads_back cells w.front t w.led }

@@ -1,5 +1,5 @@
 pub mod CellMoveLaw
-pub mod SeenLemmas
+pub mod ViewLemmas
 pub mod RingLemmas
 pub mod RingWrites
 pub mod PoolLemmas

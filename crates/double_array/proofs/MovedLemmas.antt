@@ -1,17 +1,17 @@
--- How many cells an insertion moves.
+-- The number of cells that an insertion moves.
 use Rattle.std.proofs.Common.{◌≡◌, ◌≢◌, ℕ, ◌+◌, ◌<◌, ◌≤◌, ℤ, pos, negsuc, List, length, set, map, Option, Some, inl, inr, sym, ap, ◌∙◌, refl, arith, subst, is_some, cond}
 use Rattle.std.specs.List.{range_with_len, sum}
 use Rattle.std.proofs.lemmas.Bool.{cases_eq}
 use Rattle.std.proofs.lemmas.List.FromFn.{sum_by-map-range_with_len_more}
-use Rattle.cell_walk.specs.CellMap.{Cell, free_cell, cell_at, base, check, walk, codes_of}
+use Rattle.mj_model.specs.CellMap.{Cell, free_cell, cell_at, base, check, walk, codes_of}
 use Rattle.double_array.specs.CellMoves.{IsMove}
 use Rattle.double_array.specs.Moved.{child_on, children, AreInPlace, IsOneMoveOrNone, HaveMoved}
 use Rattle.double_array.specs.Pool.{Pool, IsInUse}
 use Rattle.double_array.specs.Pool.IsInUse.{is_root, is_named}
-use Rattle.double_array.specs.Tail.{AreKept, IsReady}
-use Rattle.cell_walk.proofs.CellWalks.{step_at}
-use Rattle.double_array.proofs.SeenLemmas.{at_same, at_other}
-use Rattle.cell_walk.proofs.StepLemmas.{no_step}
+use Rattle.double_array.specs.Tail.{AreUnchanged, IsReady}
+use Rattle.mj_model.proofs.CellWalks.{step_at}
+use Rattle.double_array.proofs.ViewLemmas.{at_same, at_other}
+use Rattle.mj_model.proofs.StepLemmas.{no_step}
 
 -- ---- children, code by code
 
@@ -38,19 +38,19 @@ all_children cells s = refl
 
 -- ---- a family has moved
 
--- nothing but a search came before the move
+-- only a search preceded the move
 pub one_move : (old found new : Pool) (s to count : ℕ) → found ≡ old → IsMove found.cells new.cells s to → count ≡ children found.cells s → IsOneMoveOrNone old.cells new.cells count
 one_move old found new s to count same move all = subst (λ (p : Pool). IsOneMoveOrNone p.cells new.cells count) same (inr (record { state = s; to = to; move = move; all = all }))
 
 -- ---- used cells are kept
 
-kept_apart : (old now : List Cell) (t i : ℕ) → AreKept old now → cell_at now t ≡ free_cell → 2 ≤ t → IsInUse old i → i ≢ t
+kept_apart : (old now : List Cell) (t i : ℕ) → AreUnchanged old now → cell_at now t ≡ free_cell → 2 ≤ t → IsInUse old i → i ≢ t
 kept_apart old now t i kept free inner is_root = λ e. omega (arith, e, inner)
 kept_apart old now t i kept free inner (is_named {s = s} named) = λ e.
     let k : pos s ≡ negsuc 0 = sym named ∙ sym (ap (λ (c : Cell). c.1) (kept i (is_named {s = s} named))) ∙ ap (check now) e ∙ ap (λ (c : Cell). c.1) free in
     cc
 
-pub kept_more : (old now new : List Cell) (t : ℕ) (x : Cell) → AreKept old now → cell_at now t ≡ free_cell → 2 ≤ t → new ≡ set now t x → AreKept old new
+pub kept_more : (old now new : List Cell) (t : ℕ) (x : Cell) → AreUnchanged old now → cell_at now t ≡ free_cell → 2 ≤ t → new ≡ set now t x → AreUnchanged old new
 kept_more old now new t x kept free inner is i used = ap (λ (xs : List Cell). cell_at xs i) is ∙ at_other now t i x (kept_apart old now t i kept free inner used) ∙ kept i used
 
 pub wanted_inner : (pool : Pool) (key : List ℕ) (used state wanted : ℕ) → IsReady pool key used state wanted → 2 ≤ wanted
@@ -74,12 +74,12 @@ in_use_still : (old new : List Cell) (i : ℕ) → ((j : ℕ) → cell_at new j 
 in_use_still old new i same is_root = is_root
 in_use_still old new i same (is_named {s = s} named) = is_named {s = s} (ap (λ (x : Cell). x.1) (same i) ∙ named)
 
-kept_in_place : (old now new : List Cell) (key : List ℕ) → ((i : ℕ) → cell_at now i ≡ cell_at old i) → AreKept now new → AreInPlace old new key
+kept_in_place : (old now new : List Cell) (key : List ℕ) → ((i : ℕ) → cell_at now i ≡ cell_at old i) → AreUnchanged now new → AreInPlace old new key
 kept_in_place old now new key same kept = record { checks = λ i used. ap (λ (x : Cell). x.1) (stays i used); bases = λ i used off. ap (λ (x : Cell). x.0) (stays i used) } where
   stays : (i : ℕ) → IsInUse old i → cell_at new i ≡ cell_at old i
   stays i used = kept i (in_use_still old now i same used) ∙ same i
 
-pub moved_in_all : (old roomy cleared new : List Cell) (key : List ℕ) (count : ℕ) → ((i : ℕ) → cell_at roomy i ≡ cell_at old i) → length new ≡ length roomy → AreKept cleared new → IsOneMoveOrNone roomy cleared count → HaveMoved old new key count
+pub moved_in_all : (old roomy cleared new : List Cell) (key : List ℕ) (count : ℕ) → ((i : ℕ) → cell_at roomy i ≡ cell_at old i) → length new ≡ length roomy → AreUnchanged cleared new → IsOneMoveOrNone roomy cleared count → HaveMoved old new key count
 moved_in_all old roomy cleared new key count same long kept (inl none) = inl (none.0, kept_in_place old cleared new key (λ i. ap (λ (xs : List Cell). cell_at xs i) none.1 ∙ same i) kept)
 moved_in_all old roomy cleared new key count same long kept (inr move) = inr (record {
   longer = roomy;

@@ -2,21 +2,22 @@
 use Rattle.std.proofs.Common.{◌≡◌, ◌≢◌, ℕ, zero, suc, ◌+◌, ◌<◌, ◌≤◌, ℤ, pos, negsuc, Bool, true, false, Option, None, List, [], ◌∷◌, length, set, slice_get, Some, ◌⊎◌, inl, inr, sym, ap, ◌∙◌, refl, arith, subst}
 use Rattle.std.proofs.lemmas.Bool.{cases_eq, cases_lt}
 use Rattle.std.proofs.lemmas.List.{length-set, get_or_past}
-use Rattle.cell_walk.specs.CellMap.{Cell, free_cell, cell_at, base, check, step, walk}
-use Rattle.cell_walk.specs.CellRules.{IsUsed, IsBaseAfter}
+use Rattle.mj_model.specs.CellMap.{Cell, free_cell, cell_at, base, check, step, walk}
+use Rattle.mj_model.specs.CellRules.{IsUsed, IsBaseAfter}
 use Rattle.double_array.specs.CellMoves.{IsMove}
-use Rattle.cell_walk.proofs.CellWalks.{step_named, step_place, step_at, child_of, step_child, no_way_back, walk_one, walk_none}
+use Rattle.mj_model.proofs.CellWalks.{step_named, step_place, step_at, child_of, step_child, no_way_back, walk_one, walk_none}
 use Rattle.double_array.proofs.CellMoveLaw.{walked, free_no_check, free_no_base, cases_pos}
 use Rattle.mj_model.proofs.Basics.{same_pos}
 use Rattle.double_array.specs.Family.{HasCode}
 use Rattle.double_array.specs.Moves.{IsRelocation, IsRenamed, IsChildMoved, IsMovedUpTo, AreChildrenRenamed, HasChildrenFromBase}
 use Rattle.double_array.specs.Pool.{IsInUse}
 use Rattle.double_array.specs.Pool.IsInUse.{is_root, is_named}
-use Rattle.double_array.proofs.SeenLemmas.{at_same, at_other}
+use Rattle.double_array.proofs.ViewLemmas.{at_same, at_other}
 
--- ---- one child: its new cell is filled, its children's checks are renamed, and its old cell is given back
+-- ---- one child: its new cell is filled, its children's checks are changed, and its old cell is
+-- freed
 
--- the children of a cell stand in the window from its base, if it has any
+-- the children of a cell lie in the window from its base, if it has any
 pub record IsWindow (cells : List Cell) (t start n : ℕ) : Type 0 where
   pub inside : (i : ℕ) → check cells i ≡ pos t → (start ≤ i) × (i < start + n)
 
@@ -41,7 +42,7 @@ child_moved old filled renamed new s t u start n e1 r window e2 free within_u at
       long = ap length e2 ∙ length-set renamed t free_cell ∙ long;
     }
 
--- the same by the base of the child: a value cell has no children
+-- by the base of the child: a value cell has no children
 pub child_moved_by : (old filled renamed new : List Cell) (s t u : ℕ) (z : ℤ) → base old t ≡ z → filled ≡ set old u (z, pos s) → AreChildrenRenamed z filled renamed t u → HasChildrenFromBase old t → new ≡ set renamed t free_cell
     → cell_at old u ≡ free_cell → u < length old → check old t ≡ pos s → t < length old → (s ≡ t → ⊥) → IsChildMoved old new s t u
 child_moved_by old filled renamed new s t u (pos b) at e1 r window e2 free within_u at_t within_t no_self =
@@ -66,7 +67,7 @@ has_code_or None = inr (λ e. cc)
 has_code_or (Some true) = inl refl
 has_code_or (Some false) = inr (λ e. cc)
 
--- what a code of the family has to do with a cell
+-- the ways in which a code of the family concerns a cell
 abbrev Touches : List Cell → ℕ → ℕ → ℕ → ℕ → Type 0
 Touches old from to i c = (i ≡ to + c) ⊎ ((i ≡ from + c) ⊎ (check old i ≡ pos (from + c)))
 
@@ -130,7 +131,7 @@ module _ {values : ℕ} {old : List Cell} {s from to : ℕ} {family : List Bool}
   state_is_used d k e = free_no_base old (to + d) from (known.fits d k) (ap (base old) (sym e) ∙ known.based) known.some
 
   module _ (cells : List Cell) (n : ℕ) (moved : IsMovedUpTo old cells s from to family n) where
-    -- a cell that no child before concerns
+    -- a cell that no earlier child concerns
     pub child_as_it_was : HasCode family n → cell_at cells (from + n) ≡ cell_at old (from + n)
     child_as_it_was h = moved.others (from + n) (λ c less k. (
       old_is_used n c h k,
@@ -195,7 +196,7 @@ module _ {values : ℕ} {old : List Cell} {s from to : ℕ} {family : List Bool}
       by_cases (inl e) = subst (IsInUse cells) (sym e) is_root
       by_cases (inr other) = used_by (known.rules.others s (omega (arith, other)) (based_within old s from known.based known.some))
 
-    -- each base but 0 stood in known.some cell before
+    -- each base but 0 was in some cell before
     pub base_was : (i b : ℕ) → base cells i ≡ pos b → 0 < b → (j : ℕ) × (base old j ≡ pos b)
     base_was i b at above = elim (touched old from to family i n) [
       | inl t ↦ elim t.3 [
@@ -290,7 +291,7 @@ module _ {values : ℕ} {old : List Cell} {s from to : ℕ} {family : List Bool}
     within_s : s < length cells
     within_s = let w = based_within old s from known.based known.some in let l = moved.long in omega (arith, w, l)
 
-    -- each base known.is at least 2 and at most the top
+    -- each base is at least 2 and at most the top
     pub bases_kept : (top : ℕ) → ((t b : ℕ) → base old t ≡ pos b → 0 < b → (2 ≤ b) × (b ≤ top)) → 2 ≤ to → to ≤ top → (t b : ℕ) → base new t ≡ pos b → 0 < b → (2 ≤ b) × (b ≤ top)
     bases_kept top bases least below t b at above = elim (cases_eq t s) [
       | inl e ↦

@@ -1,8 +1,8 @@
--- The ring of the free cells, when one cell leaves it or joins it.
+-- The ring of free cells, after a cell is removed or linked.
 use Rattle.std.proofs.Common.{◌≡◌, ◌≢◌, ℕ, zero, suc, ◌<◌, pos, negsuc, neg_ℤ, List, length, ◌⊎◌, inl, inr, sym, ap, ◌∙◌, refl, arith, subst}
 use Rattle.std.proofs.lemmas.Bool.{cases_eq, cases_lt}
 use Rattle.std.proofs.lemmas.List.{get_or_past}
-use Rattle.cell_walk.specs.CellMap.{Cell, free_cell, base, check}
+use Rattle.mj_model.specs.CellMap.{Cell, free_cell, base, check}
 use Rattle.mj_model.proofs.Basics.{same_pos}
 use Rattle.double_array.specs.Ring.{HasLinks, IsOnRing, IsRing}
 use Rattle.double_array.specs.Ring.IsOnRing.{first, further}
@@ -42,7 +42,7 @@ no_loop cells i j ring l loop inner (further {i = k} on e) same =
 pub next_is_other : (cells : List Cell) (i : ℕ) → IsRing cells → (l : HasLinks cells i) → (i ≡ 1 → ⊥) → l.next ≡ i → ⊥
 next_is_other cells i ring l inner loop = no_loop cells i i ring l loop inner (ring.reached i l) refl
 
--- ---- a cell leaves the ring
+-- ---- a cell is removed from the ring
 
 module _ (old new : List Cell) (i : ℕ) (ring : IsRing old) (l : HasLinks old i) (inner : i ≡ 1 → ⊥)
     (gone : HasLinks new i → ⊥)
@@ -155,7 +155,7 @@ module _ (old new : List Cell) (i : ℕ) (ring : IsRing old) (l : HasLinks old i
   pub links_without : (j : ℕ) → j ≢ i → HasLinks old j → HasLinks new j
   links_without = stays
 
--- ---- a cell joins the ring
+-- ---- a cell is linked into the ring
 
 module _ (old new : List Cell) (i a n : ℕ) (ring : IsRing old) (l : HasLinks old a) (next_is : base old a ≡ pos n) (outside : HasLinks old i → ⊥) (above : 0 < i)
     (base_new : base new i ≡ pos n)

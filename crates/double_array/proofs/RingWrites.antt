@@ -1,12 +1,12 @@
--- The writes by which a cell leaves the ring or joins it.
+-- The writes that remove a cell from the ring or link it there.
 use Rattle.std.proofs.Common.{◌≡◌, ◌≢◌, ℕ, zero, suc, ◌+◌, ◌<◌, ◌≤◌, ℤ, pos, negsuc, neg_ℤ, List, length, set, inl, inr, sym, ap, ◌∙◌, refl, arith, subst}
 use Rattle.std.proofs.lemmas.Bool.{cases_eq}
 use Rattle.std.proofs.lemmas.List.{length-set, set-get_or}
-use Rattle.cell_walk.specs.CellMap.{Cell, free_cell, cell_at, base, check}
+use Rattle.mj_model.specs.CellMap.{Cell, free_cell, cell_at, base, check}
 use Rattle.mj_model.proofs.Basics.{same_pos}
-use Rattle.double_array.specs.Seen.{hide, cells_as_seen}
+use Rattle.double_array.specs.Views.{hide, cell_views}
 use Rattle.double_array.specs.Ring.{HasLinks, IsRing, AreLinked}
-use Rattle.double_array.proofs.SeenLemmas.{at_same, at_other, seen_set, seen_at, seen_root, seen_free, length-seen}
+use Rattle.double_array.proofs.ViewLemmas.{at_same, at_other, seen_set, seen_at, seen_root, seen_free, length-seen}
 use Rattle.double_array.proofs.RingLemmas.{same_neg, linked_within, next_of, before_of, next_is_other, ring_without, links_without, ring_with, links_with, link_with}
 
 -- the links of a cell by the numbers that were read
@@ -44,11 +44,11 @@ base-set_before cells i p j within = elim (cases_eq j i) [
 pub same_base_and_check : (old new : List Cell) (j : ℕ) → base new j ≡ base old j → check new j ≡ check old j → cell_at new j ≡ cell_at old j
 same_base_and_check old new j at_b at_k = ap (λ (b : ℤ). (b, check new j)) at_b ∙ ap (λ (k : ℤ). (base old j, k)) at_k
 
--- what is left when a cell has left the ring and is filled
+-- the state after a cell is removed from the ring and filled
 pub record IsTaken (old new : List Cell) (i : ℕ) (x : Cell) : Type 0 where
   pub ring : IsRing new
   pub links : (j : ℕ) → j ≢ i → HasLinks old j → HasLinks new j
-  pub seen_is : cells_as_seen new ≡ set (cells_as_seen old) i x
+  pub seen_is : cell_views new ≡ set (cell_views old) i x
 
 pub no_links : (cells : List Cell) (i s : ℕ) → check cells i ≡ pos s → HasLinks cells i → ⊥
 no_links cells i s at l = from_neg l.before l.before_above (sym l.before_is ∙ at) where
@@ -56,10 +56,10 @@ no_links cells i s at l = from_neg l.before l.before_above (sym l.before_is ∙ 
   from_neg zero above e = omega (arith, above)
   from_neg (suc p) above e = let f : negsuc p ≡ pos s = e in cc
 
-pub seen_link : (old new : List Cell) (j : ℕ) → HasLinks old j → HasLinks new j → cell_at (cells_as_seen new) j ≡ cell_at (cells_as_seen old) j
+pub seen_link : (old new : List Cell) (j : ℕ) → HasLinks old j → HasLinks new j → cell_at (cell_views new) j ≡ cell_at (cell_views old) j
 seen_link old new j k l = seen_free new j l.before l.above l.before_above l.before_is ∙ sym (seen_free old j k.before k.above k.before_above k.before_is)
 
-pub seen_same : (old new : List Cell) (j : ℕ) → cell_at new j ≡ cell_at old j → cell_at (cells_as_seen new) j ≡ cell_at (cells_as_seen old) j
+pub seen_same : (old new : List Cell) (j : ℕ) → cell_at new j ≡ cell_at old j → cell_at (cell_views new) j ≡ cell_at (cell_views old) j
 seen_same old new zero e = seen_root new ∙ e ∙ sym (seen_root old)
 seen_same old new (suc j) e = seen_at new (suc j) (omega arith) ∙ ap hide e ∙ sym (seen_at old (suc j) (omega arith))
 
@@ -99,13 +99,13 @@ taken_by_writes old one two new i n p s b ring k at_n at_p inner e1 e2 e3 =
       ]);
     }
 
--- what there is when a cell has joined the ring
+-- the state after a cell is linked into the ring
 pub record IsJoined (old new : List Cell) (i : ℕ) : Type 0 where
   pub ring : IsRing new
   pub links : (j : ℕ) → HasLinks old j → HasLinks new j
   pub linked : HasLinks new i
   pub others : (j : ℕ) → j ≢ i → (HasLinks old j → ⊥) → cell_at new j ≡ cell_at old j
-  pub seen_is : cells_as_seen new ≡ set (cells_as_seen old) i free_cell
+  pub seen_is : cell_views new ≡ set (cell_views old) i free_cell
 
 pub joined_by_writes : (old one two new : List Cell) (i a n : ℕ) → IsRing old → (HasLinks old i → ⊥) → HasLinks old a → base old a ≡ pos n → 0 < i → i < length old
     → one ≡ set old a (pos i, check old a) → two ≡ set one i (pos n, neg_ℤ (pos a)) → new ≡ set two n (base two n, neg_ℤ (pos i)) → IsJoined old new i
@@ -144,7 +144,7 @@ joined_by_writes old one two new i a n ring outside l at_n above within e1 e2 e3
       ]);
     }
 
--- ---- one cell after another joins
+-- ---- cells are linked one after another
 
 free_has_no_links : (cells : List Cell) (i : ℕ) → cell_at cells i ≡ free_cell → HasLinks cells i → ⊥
 free_has_no_links cells i free l = let a = l.next_above in let z = same_pos l.next 0 (sym l.next_is ∙ ap (λ (x : Cell). x.0) free) in omega (arith, a, z)
@@ -154,13 +154,13 @@ pub record IsLinkedUpTo (old cells : List Cell) (i : ℕ) : Type 0 where
   pub linked : AreLinked cells i
   pub free : (j : ℕ) → i ≤ j → cell_at cells j ≡ free_cell
   pub links : (j : ℕ) → HasLinks old j → HasLinks cells j
-  pub seen_is : cells_as_seen cells ≡ cells_as_seen old
+  pub seen_is : cell_views cells ≡ cell_views old
   pub long : length cells ≡ length old
 
 pub linked_one_more : (old cells new : List Cell) (i : ℕ) → 0 < i → i < length cells → IsLinkedUpTo old cells i → IsJoined cells new i → IsLinkedUpTo old new (i + 1)
 linked_one_more old cells new i above within k j =
-    let free_i : cell_at (cells_as_seen cells) i ≡ free_cell = seen_at cells i above ∙ ap hide (k.free i (omega arith)) in
-    let same : cells_as_seen new ≡ cells_as_seen cells = j.seen_is ∙ ap (set (cells_as_seen cells) i) (sym free_i) ∙ set-get_or (cells_as_seen cells) i free_cell in
+    let free_i : cell_at (cell_views cells) i ≡ free_cell = seen_at cells i above ∙ ap hide (k.free i (omega arith)) in
+    let same : cell_views new ≡ cell_views cells = j.seen_is ∙ ap (set (cell_views cells) i) (sym free_i) ∙ set-get_or (cell_views cells) i free_cell in
     record {
       ring = j.ring;
       linked = λ m up less free. elim (cases_eq m i) [

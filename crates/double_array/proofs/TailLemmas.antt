@@ -1,15 +1,15 @@
--- The end of a new key goes into the cells, code by code.
+-- The end of a new key is added code by code.
 use Rattle.std.proofs.Common.{◌≡◌, ◌≢◌, ℕ, suc, ◌+◌, ◌<◌, ◌≤◌, max, ℤ, pos, negsuc, List, [], length, set, take, drop, get_or, Some, inl, inr, sym, ap, ◌∙◌, refl, arith, subst}
 use Rattle.std.proofs.lemmas.Bool.{cases_eq}
 use Rattle.std.proofs.lemmas.List.{length-set, set-set}
-use Rattle.cell_walk.specs.CellMap.{Cell, free_cell, cell_at, base, check, walk, codes_of, HasSameMap, IsMapWith}
-use Rattle.cell_walk.specs.CellRules.{IsBaseAfter}
+use Rattle.mj_model.specs.CellMap.{Cell, free_cell, cell_at, base, check, walk, codes_of, HasSameMap, IsMapWith}
+use Rattle.mj_model.specs.CellRules.{IsBaseAfter}
 use Rattle.mj_model.proofs.Basics.{same_pos}
 use Rattle.double_array.specs.Pool.{Pool}
-use Rattle.double_array.specs.Built.{values, AreBases, IsBuilt}
+use Rattle.double_array.specs.Built.{values, AreBases, MeetsInvariants}
 use Rattle.double_array.specs.Tail.{IsReady, IsStateAdded}
-use Rattle.double_array.proofs.SeenLemmas.{at_same, at_other}
-use Rattle.cell_walk.proofs.KeyWalks.{length-codes_of, code_of_byte, code_of_end, split_at, codes_end, walk_take_more}
+use Rattle.double_array.proofs.ViewLemmas.{at_same, at_other}
+use Rattle.mj_model.proofs.KeyWalks.{length-codes_of, code_of_byte, code_of_end, split_at, codes_end, walk_take_more}
 use Rattle.double_array.proofs.Leaf.{leaf_at, leaf_others, leaf_step, walk_stays, leaf_rules, state_keeps_map, value_is_set, leaf_on_way, on_way_is_on_key}
 
 -- ---- a state is added
@@ -130,7 +130,7 @@ module _ (pool new : Pool) (key : List ℕ) (s t value : ℕ) (ready : IsReady p
       value_is_set values pool.cells s 0 t ready.based.0 (negsuc value) ready.rules ready.based.1 end_some (omega arith) end_place ready.free end_within end_content new.cells cells_is
       key (take (length key) (codes_of key)) value refl some_key (codes_end key) ready.led
 
-  pub built_again : IsBuilt new
+  pub built_again : MeetsInvariants new
   built_again = record {
     rules = leaf_rules values pool.cells s 0 t ready.based.0 (negsuc value) ready.rules ready.based.1 end_some (omega arith) end_place ready.free end_within end_content new.cells cells_is;
     on_keys = on_way_is_on_key new.cells key value value_added.there
@@ -143,7 +143,7 @@ module _ (pool new : Pool) (key : List ℕ) (s t value : ℕ) (ready : IsReady p
           (r.0, (let l = r.1 in omega (arith, l, top_is)))
     ];
     root = (ready.root.0, ap (λ (x : Cell). x.0) (end_rest 0 (λ e. let l = ready.based.2 in let p = ready.based.3 in omega (arith, e, l, p))) ∙ ready.root.1, ready.root.2);
-    begun = inl (t, s, ap (λ (x : Cell). x.1) end_at);
+    started = inl (t, s, ap (λ (x : Cell). x.1) end_at);
     room = let a = ready.room_wanted in let b = ready.room_top in let l = end_long in omega (arith, a, b, l, top_is);
     few = let f = ready.few in let l = end_long in omega (arith, f, l);
   }

@@ -2,11 +2,11 @@
 use Rattle.std.proofs.Common.{◌≡◌, ◌≢◌, ℕ, zero, suc, ◌<◌, ◌≤◌, pos, negsuc, ◌+ℤ◌, List, [], ◌∷◌, length, set, Some, inl, inr, sym, ap, ◌∙◌, refl, arith, subst}
 use Rattle.std.proofs.lemmas.Bool.{cases_eq, cases_lt}
 use Rattle.std.proofs.lemmas.List.{length-set, get_or_past}
-use Rattle.cell_walk.specs.CellMap.{Cell, free_cell, cell_at, base, check, step, walk, codes_of, value_of, HasSameMap, IsMapWith}
-use Rattle.cell_walk.specs.CellRules.{IsBaseAfter, MeetsRules, AreOnKeys}
-use Rattle.cell_walk.proofs.CellWalks.{step_parts, step_from, step_named, child_of, walk_one, walk_none, walk_first, walk_is_one, leads_back, value_parts, value_from, same_value}
-use Rattle.double_array.proofs.SeenLemmas.{at_same, at_other}
-use Rattle.cell_walk.proofs.KeyWalks.{same_key}
+use Rattle.mj_model.specs.CellMap.{Cell, free_cell, cell_at, base, check, step, walk, codes_of, value_of, HasSameMap, IsMapWith}
+use Rattle.mj_model.specs.CellRules.{IsBaseAfter, MeetsRules, AreOnKeys}
+use Rattle.mj_model.proofs.CellWalks.{step_parts, step_from, step_named, child_of, walk_one, walk_none, walk_first, walk_is_one, leads_back, value_parts, value_from, same_value}
+use Rattle.double_array.proofs.ViewLemmas.{at_same, at_other}
+use Rattle.mj_model.proofs.KeyWalks.{same_key}
 
 -- ---- cells that are the same by number
 

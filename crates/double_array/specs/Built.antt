@@ -1,10 +1,10 @@
 -- The cells of a double array between two calls.
 use Rattle.std.specs.Prelude.{◌≡◌, ℕ, ◌+◌, ◌-◌, ◌<◌, ◌≤◌, ◌^◌, ◌⊎◌, pos, List, Some, length}
-use Rattle.cell_walk.specs.CellMap.{Cell, free_cell, cell_at, base, check, walk, HasSameMap}
-use Rattle.cell_walk.specs.CellRules.{MeetsRules, AreOnKeys}
+use Rattle.mj_model.specs.CellMap.{Cell, free_cell, cell_at, base, check, walk, HasSameMap}
+use Rattle.mj_model.specs.CellRules.{MeetsRules, AreOnKeys}
 use Rattle.double_array.specs.Pool.{Pool}
 
--- all values are below this number
+-- the bound of all values
 abbrev pub values : ℕ
 values = 2 ^ 31 - 1
 
@@ -16,27 +16,29 @@ AreBases pool = (t b : ℕ) → base pool.cells t ≡ pos b → 0 < b → (2 ≤
 abbrev pub HasUsed : List Cell → Type 0
 HasUsed cells = (t : ℕ) × (s : ℕ) × (check cells t ≡ pos s)
 
--- the cells meet the rules, each used one is a step of a key, and each step from a state leads to a cell of the array
-pub record IsBuilt (pool : Pool) : Type 0 where
+-- the cells meet the invariants, each used one lies on the walk of a key, and each step from a
+-- state leads to a cell of the array
+pub record MeetsInvariants (pool : Pool) : Type 0 where
   pub rules : MeetsRules values pool.cells
   pub on_keys : AreOnKeys pool.cells
   pub bases : AreBases pool
   pub root : (b : ℕ) × (base pool.cells 0 ≡ pos b) × (2 ≤ b)
-  pub begun : HasUsed pool.cells ⊎ (base pool.cells 0 ≡ pos 2)
+  pub started : HasUsed pool.cells ⊎ (base pool.cells 0 ≡ pos 2)
   pub room : pool.top + 257 ≤ length pool.cells
   pub few : length pool.cells ≤ 2 ^ 30
 
--- the state has the base from, the code is that of a byte or of a key's end, and there is room for a family to move
+-- the state s has base `from`, the code is that of a byte or of the end of a key, and there is room
+-- to move a family
 pub record CanClear (pool : Pool) (s from code : ℕ) : Type 0 where
-  pub built : IsBuilt pool
+  pub built : MeetsInvariants pool
   pub based : base pool.cells s ≡ pos from
   pub least : 2 ≤ from
   pub code_within : code ≤ 256
   pub room : pool.top + 514 ≤ length pool.cells
 
--- the cell of a state's step on a code is free: the state has the number now, and the cell is the wanted one
+-- the cell `wanted` of a state's step on a code is free; `now` is the state's number after a move
 pub record IsCleared (old new : Pool) (s code now wanted : ℕ) : Type 0 where
-  pub built : IsBuilt new
+  pub built : MeetsInvariants new
   pub map : HasSameMap old.cells new.cells
   pub led : (front : List ℕ) → walk old.cells 0 front ≡ Some s → walk new.cells 0 front ≡ Some now
   pub based : (b : ℕ) × (base new.cells now ≡ pos b) × (2 ≤ b) × (wanted ≡ b + code)

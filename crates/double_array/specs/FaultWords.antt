@@ -1,4 +1,4 @@
--- The code and the name of each fault of an insertion, as they are printed.
+-- The code and the name of each error of an insertion, as they are printed.
 use Rattle.std.specs.Prelude.{codes}
 use Rattle.mj_model.specs.FaultWords.{Words}
 use Rattle.double_array.specs.declared.fault.DaFault.{DaFault}

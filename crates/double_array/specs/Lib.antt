@@ -1,5 +1,5 @@
 pub mod CellMoves
-pub mod Seen
+pub mod Views
 pub mod Ring
 pub mod Pool
 pub mod Family

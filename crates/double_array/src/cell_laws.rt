@@ -2,7 +2,8 @@
 
 ghost use Rattle.double_array.specs.CellMoves.{MovesKeepTheMap};
 
-/// A move of a state's children to another base keeps the map, the cell rules and that every used cell is a step of a key.
+/// Moving the children of a state to another base keeps the map, the invariants of the cells, and
+/// that every used cell lies on the walk of a key.
 pub fn move_keeps_the_map()
     ensures { MovesKeepTheMap }
 {}

@@ -1,25 +1,33 @@
-//! A free cell for a step that a state lacks.
+//! Freeing of the cell for a step that a state lacks.
 ghost use Rattle.std.specs.Prelude.{◌≡◌, ◌≢◌, ℕ, ◌+◌, ◌<◌, ◌≤◌, pos, None, length};
-ghost use Rattle.cell_walk.specs.CellMap.{base as base_of, check as check_of, step as step_of};
-ghost use Rattle.double_array.specs.Built.{CanClear, IsBuilt, IsCleared};
+ghost use Rattle.mj_model.specs.CellMap.{base as base_of, check as check_of, step as step_of};
+ghost use Rattle.double_array.specs.Built.{CanClear, MeetsInvariants, IsCleared};
 ghost use Rattle.double_array.specs.Moved.{IsOneMoveOrNone};
 ghost use Rattle.double_array.specs.Moves.{HasFamily, IsFamilyOf};
 
 use crate::pool::{CellPool, WIDTH};
 use crate::relocation::{family_of, relocate};
 
-/// A state and the free cell where its step on a code leads, after so many children were moved.
+/// A state, the free cell `wanted` of its step on a code, and the number of children that were moved to
+/// free the cell.
 #[derive(Clone, Copy, Debug, Drop)]
-pub(crate) struct Cleared {
+pub(crate) struct FreedCell {
     pub state: usize,
     pub wanted: usize,
     pub moved: u32,
 }
 
-/// Makes free the cell where the step of a state of base `from` on a code leads. Where it is another state's child, the
-/// smaller of the two families moves, of equal ones the state's own. (Aoe 1989)
-pub(crate) fn clear_way(pool: &mut CellPool, state: usize, from: usize, code: usize) -> Cleared
-    requires built { IsBuilt pool.old }
+/// Frees the cell of the step of `state` on `code`. `from` is the base of the state.
+///
+/// If the cell is a child of another state, the smaller of the two families moves, and the state's
+/// own one if both are of equal size. (Aoe 1989)
+pub(crate) fn free_target_cell(
+    pool: &mut CellPool,
+    state: usize,
+    from: usize,
+    code: usize,
+) -> FreedCell
+    requires built { MeetsInvariants pool.old }
     requires based { base_of pool.old.cells state ≡ pos from }
     requires least { 2 ≤ from }
     requires code { code ≤ 256 }
@@ -31,7 +39,7 @@ pub(crate) fn clear_way(pool: &mut CellPool, state: usize, from: usize, code: us
 {
     let wanted = from + code;
     match pool.parent(wanted) {
-        None => Cleared {
+        None => FreedCell {
             state,
             wanted,
             moved: 0,
@@ -48,14 +56,14 @@ pub(crate) fn clear_way(pool: &mut CellPool, state: usize, from: usize, code: us
     }
 }
 
-/// Moves the state's own children to where the cell of one more code is free.
+/// Moves the children of `state` to a base at which the cell of `code` is free too.
 fn move_own(
     pool: &mut CellPool,
     state: usize,
     from: usize,
     code: usize,
     family: &[bool; WIDTH],
-) -> Cleared
+) -> FreedCell
     requires can { CanClear pool.old state from code }
     requires none { step_of pool.old.cells state code ≡ None }
     requires used { (s : ℕ) × (check_of pool.old.cells (from + code) ≡ pos s) }
@@ -68,15 +76,15 @@ fn move_own(
     wider[code] = true;
     let to = pool.find_free_base(&wider);
     let moved = relocate(pool, state, from, family, to);
-    Cleared {
+    FreedCell {
         state,
         wanted: to + code,
         moved,
     }
 }
 
-/// Moves the children of another state, one of which stands in the wanted cell. The state may itself be one of them: it is
-/// followed.
+/// Moves the children of the state `other`, one of which is in the wanted cell. If `state` is one
+/// of them, the result has its new number.
 fn move_other(
     pool: &mut CellPool,
     other: usize,
@@ -84,7 +92,7 @@ fn move_other(
     state: usize,
     from: usize,
     code: usize,
-) -> Cleared
+) -> FreedCell
     requires can { CanClear pool.old state from code }
     requires used { check_of pool.old.cells (from + code) ≡ pos other }
     requires apart { state ≢ other }
@@ -101,14 +109,14 @@ fn move_other(
         state
     };
     let moved = relocate(pool, other, other_from, family, to);
-    Cleared {
+    FreedCell {
         state: follow,
         wanted: from + code,
         moved,
     }
 }
 
-/// How many codes a family has.
+/// Returns the number of codes in a family.
 fn size_of(family: &[bool]) -> usize {
     family.iter().filter(|member| **member).count()
 }

@@ -1,43 +1,46 @@
 //! Insertion of a key into a pool of cells.
 ghost use Rattle.std.specs.Prelude.{◌≡◌, ℕ, ◌+◌, ◌<◌, ◌≤◌, ◌^◌, pos, negsuc, None, length, slice_set, false, IsTrue, IsSome, IfOk, IfErr, OnOk, OnErr};
-ghost use Rattle.cell_walk.specs.CellMap.{base as base_of, check as check_of, step as step_of, value_of, IsMapWith};
-ghost use Rattle.double_array.specs.Built.{IsBuilt, values};
-ghost use Rattle.double_array.specs.Insertion.{IsReached, HasRoom};
-ghost use Rattle.double_array.specs.Moved.{HasSpace, HaveMoved};
+ghost use Rattle.mj_model.specs.CellMap.{base as base_of, check as check_of, step as step_of, value_of, IsMapWith};
+ghost use Rattle.double_array.specs.Built.{MeetsInvariants, values};
+ghost use Rattle.double_array.specs.Insertion.{IsLongestMatch, HasRoom};
+ghost use Rattle.double_array.specs.Moved.{HasSpaceAfterEachCell, HaveMoved};
 ghost use Rattle.double_array.specs.Pool.{IsInUse};
 ghost use Rattle.double_array.specs.declared.fault.DaFault.TheVariants.{Full, Memory};
 
-use crate::clearing::clear_way;
+use crate::clearing::free_target_cell;
 use crate::fault::DaFault;
 use crate::pool::{CellPool, WIDTH};
 use crate::tail::{add_tail, code_at, value_base};
 use cells::CELLS_MAX;
 
-/// By how many cells the array grows for one key, besides the key's length.
+/// The number of cells by which the array grows for a key, in addition to the key's length in
+/// bytes.
 const GROWTH: usize = 600;
 
-/// What an insertion did: the value before, and how many children were moved to other cells.
+/// The result of an insertion: the value before, and the number of children that moved to other
+/// cells.
 #[derive(Clone, Copy, Debug, PartialEq, Eq, Drop)]
 pub struct Inserted {
     pub old: Option<u32>,
     pub moved: u32,
 }
 
-/// The last state to which the first bytes of a key lead, with its base, and how many bytes they are.
+/// The longest prefix of a key that leads to a state: the state, its base `from`, and the length
+/// `used` of the prefix in bytes.
 #[derive(Clone, Copy, Debug, Drop)]
-pub(crate) struct Reached {
+pub(crate) struct LongestMatch {
     pub state: usize,
     pub from: usize,
     pub used: usize,
 }
 
-/// Sets a key to a value.
+/// Sets the value of `key` to `value`. On an error the cells are unchanged.
 pub(crate) fn insert_key(pool: &mut CellPool, key: &[u8], value: u32) -> Result<Inserted, DaFault>
-    requires built { IsBuilt pool.old }
+    requires built { MeetsInvariants pool.old }
     requires some { 0 < length key.now }
     requires short { length key.now ≤ 65535 }
     requires value { value < values }
-    ensures built { IsBuilt pool.new }
+    ensures built { MeetsInvariants pool.new }
     ensures map { OnOk result (IsMapWith pool.old.cells pool.new.cells key.now value) }
     ensures old { IfOk result (λ inserted. inserted.old ≡ value_of pool.old.cells key.now) }
     ensures moved { IfOk result
@@ -48,14 +51,14 @@ pub(crate) fn insert_key(pool: &mut CellPool, key: &[u8], value: u32) -> Result<
         → length pool.new.cells ≡ length pool.old.cells) }
     ensures least { length pool.old.cells ≤ length pool.new.cells }
     ensures most { length pool.new.cells ≤ length pool.old.cells + length key.now + 600 }
-    ensures space { HasSpace pool.old.cells (length key.now)
+    ensures space { HasSpaceAfterEachCell pool.old.cells (length key.now)
         → length pool.new.cells ≡ length pool.old.cells }
-    ensures kept { OnErr result (pool.new.cells ≡ pool.old.cells) }
+    ensures unchanged { OnErr result (pool.new.cells ≡ pool.old.cells) }
     ensures absent { OnErr result (value_of pool.old.cells key.now ≡ None) }
-    ensures needed { OnErr result (HasSpace pool.old.cells (length key.now) → ⊥) }
+    ensures needed { OnErr result (HasSpaceAfterEachCell pool.old.cells (length key.now) → ⊥) }
     ensures full { IfErr result (λ fault. fault ≡ Full
         → 2 ^ 30 < length pool.old.cells + length key.now + 600) }
-    ensures starved { IfErr result (λ fault. fault ≡ Memory
+    ensures out_of_memory { IfErr result (λ fault. fault ≡ Memory
         → length pool.old.cells + length key.now + 600 ≤ 2 ^ 30) }
 {
     let at = walk_key(pool, key);
@@ -67,7 +70,7 @@ pub(crate) fn insert_key(pool: &mut CellPool, key: &[u8], value: u32) -> Result<
         }),
         None => {
             make_room(pool, key.len(), key.len() - at.used)?;
-            let cleared = clear_way(pool, at.state, at.from, code);
+            let cleared = free_target_cell(pool, at.state, at.from, code);
             add_tail(pool, key, at.used, cleared.state, cleared.wanted, value);
             Ok(Inserted {
                 old: None,
@@ -77,10 +80,10 @@ pub(crate) fn insert_key(pool: &mut CellPool, key: &[u8], value: u32) -> Result<
     }
 }
 
-/// Walks as far as the bytes of a key lead.
-fn walk_key(pool: &CellPool, key: &[u8]) -> Reached
-    requires { IsBuilt pool.now }
-    ensures { IsReached pool.now.cells key.now result }
+/// Walks over the bytes of `key` as far as there are states.
+fn walk_key(pool: &CellPool, key: &[u8]) -> LongestMatch
+    requires { MeetsInvariants pool.now }
+    ensures { IsLongestMatch pool.now.cells key.now result }
 {
     let mut state = 0;
     let mut from = pool.base(0);
@@ -90,17 +93,18 @@ fn walk_key(pool: &CellPool, key: &[u8]) -> Reached
                 state = next;
                 from = pool.base(next);
             }
-            None => return Reached { state, from, used },
+            None => return LongestMatch { state, from, used },
         }
     }
-    Reached {
+    LongestMatch {
         state,
         from,
         used: key.len(),
     }
 }
 
-/// The cell to which the step of a state of base `from` leads on a code.
+/// Returns the cell of the step of `state` on `code`, if there is such a step. `from` is the base
+/// of the state.
 fn child(pool: &CellPool, state: usize, from: usize, code: usize) -> Option<usize>
     requires based { base_of pool.now.cells state ≡ pos from }
     requires within { from + code < length pool.now.cells }
@@ -114,7 +118,7 @@ fn child(pool: &CellPool, state: usize, from: usize, code: usize) -> Option<usiz
     }
 }
 
-/// Replaces the value of a value cell, and answers the old one.
+/// Replaces the value in the value cell `end`, and returns the old value.
 fn replace_value(pool: &mut CellPool, end: usize, value: u32) -> u32
     requires used { IsInUse pool.old.cells end }
     requires within { end < length pool.old.cells }
@@ -130,21 +134,23 @@ fn replace_value(pool: &mut CellPool, end: usize, value: u32) -> u32
     -(base + 1) as u32
 }
 
-/// Makes room for a family, for one more and for `left` further codes, for a key of this length. The array grows before any
-/// other cell is changed, and only where there is no room after its last used cell.
+/// Makes room for two families and for `left` further codes.
+///
+/// The array grows before any other cell changes, and only if there is no room after its last used
+/// cell. It grows by `key_length`, the length of the key in bytes, and `GROWTH`.
 fn make_room(pool: &mut CellPool, key_length: usize, left: usize) -> Result<(), DaFault>
-    requires built { IsBuilt pool.old }
+    requires built { MeetsInvariants pool.old }
     requires short { key_length ≤ 65535 }
     requires left { left ≤ key_length }
     ensures room { OnOk result (HasRoom pool.old pool.new key_length left) }
-    ensures built { IsBuilt pool.new }
-    ensures space { HasSpace pool.old.cells key_length
+    ensures built { MeetsInvariants pool.new }
+    ensures space { HasSpaceAfterEachCell pool.old.cells key_length
         → length pool.new.cells ≡ length pool.old.cells }
-    ensures kept { OnErr result (pool.new.cells ≡ pool.old.cells) }
-    ensures needed { OnErr result (HasSpace pool.old.cells key_length → ⊥) }
+    ensures unchanged { OnErr result (pool.new.cells ≡ pool.old.cells) }
+    ensures needed { OnErr result (HasSpaceAfterEachCell pool.old.cells key_length → ⊥) }
     ensures full { IfErr result (λ fault. fault ≡ Full
         → 2 ^ 30 < length pool.old.cells + key_length + 600) }
-    ensures starved { IfErr result (λ fault. fault ≡ Memory
+    ensures out_of_memory { IfErr result (λ fault. fault ≡ Memory
         → length pool.old.cells + key_length + 600 ≤ 2 ^ 30) }
 {
     if has_room(pool, left) {
@@ -157,20 +163,21 @@ fn make_room(pool: &mut CellPool, key_length: usize, left: usize) -> Result<(), 
     pool.grow(wanted).map_err(|_| DaFault::Memory)
 }
 
-/// Whether there is room after the last used cell for a family, for one more and for `left` further codes. The top is lowered
-/// where it stands too high.
+/// Returns whether there is room for two families and `left` further codes after the last used
+/// cell. Lowers the top if it is too high for that.
 fn has_room(pool: &mut CellPool, left: usize) -> bool
-    requires built { IsBuilt pool.old }
+    requires built { MeetsInvariants pool.old }
     requires short { left ≤ 65535 }
-    ensures built { IsBuilt pool.new }
+    ensures built { MeetsInvariants pool.new }
     ensures cells { pool.new.cells ≡ pool.old.cells }
     ensures room { IsTrue result → pool.new.top + 514 + left ≤ length pool.new.cells }
-    ensures none { result ≡ false → (long : ℕ) → left ≤ long → HasSpace pool.old.cells long → ⊥ }
+    ensures none { result ≡ false → (long : ℕ)
+        → left ≤ long → HasSpaceAfterEachCell pool.old.cells long → ⊥ }
 {
-    let behind = 2 * WIDTH + left;
-    if pool.top() + behind <= pool.len() {
+    let following = 2 * WIDTH + left;
+    if pool.top() + following <= pool.len() {
         return true;
     }
     pool.lower_top();
-    pool.top() + behind <= pool.len()
+    pool.top() + following <= pool.len()
 }

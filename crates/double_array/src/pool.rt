@@ -1,30 +1,30 @@
 //! The cells of a double array, with the free ones on a ring.
 ghost use Rattle.std.specs.Prelude.{◌≡◌, ◌≢◌, ◌+◌, ◌<◌, ◌≤◌, ◌^◌, ℕ, pos, max, ◌↔◌, IsTrue, length, slice_get, slice_set, Some, IfOk, OnOk, OnErr};
-ghost use Rattle.cell_walk.specs.CellMap.{free_cell, cell_at, base as base_of, check as check_of};
+ghost use Rattle.mj_model.specs.CellMap.{free_cell, cell_at, base as base_of, check as check_of};
 ghost use Rattle.double_array.specs.Family.{FitsAt};
 ghost use Rattle.double_array.specs.Ring.{HasLinks, IsRing};
 ghost use Rattle.double_array.specs.Pool.{IsInUse, IsLowered, IsParent, IsGrown, IsEmpty, IsNew, IsPool};
-ghost use Rattle.double_array.specs.Seen.{cells_as_seen};
+ghost use Rattle.double_array.specs.Views.{cell_views};
 
-use crate::ring::{LIST, change_base, change_check, link, link_from, next, set_links, take};
+use crate::ring::{RING_HEAD, change_base, change_check, link, link_from, next, set_links, take};
 use crate::search::{search_cell, search_family};
 use cells::Cells;
 use std::alloc::{AllocError, Global};
 use std::marker::Model;
 
-/// The number of codes: 256 bytes and the key's end.
+/// The number of codes: one for each byte, and one for the end of a key.
 pub(crate) const WIDTH: usize = 257;
 
-/// The least base that a state gets, so that no step leads to cell 0 or to `LIST`.
-pub(crate) const LEAST_BASE: usize = 2;
+/// The least base of a state, so that no step leads to cell 0 or to `RING_HEAD`.
+pub(crate) const BASE_MIN: usize = 2;
 
-/// Cells of a new array: one family fits behind the top.
-const FIRST_CELLS: usize = 515;
+/// The number of cells of a new array, which has room for one family after the top.
+const INITIAL_CELLS: usize = 515;
 
-/// Cells, of which the free ones stand on a ring.
+/// Cells of which the free ones are linked in a ring.
 ///
-/// All cells from `top` on are free, and a family of any codes fits there. `start` is the free cell
-/// where the next search for a family begins.
+/// All cells from `top` on are free, and there is room for a family of any codes from there.
+/// `start` is the free cell at which the next search for a family starts.
 #[derive(Drop)]
 pub(crate) struct CellPool {
     pub(crate) cells: Cells,
@@ -37,27 +37,27 @@ impl Model for CellPool {
 
     ghost Value = { Pool };
 
-    ghost use Rattle.double_array.specs.Seen.{cells_as_seen};
+    ghost use Rattle.double_array.specs.Views.{cell_views};
 
-    ghost view = { λ pool. record { cells = cells_as_seen pool.cells; top = pool.top } };
+    ghost view = { λ pool. record { cells = cell_views pool.cells; top = pool.top } };
 
     ghost invariant = { λ pool. IsPool pool.cells pool.top pool.start };
 }
 
 impl CellPool {
-    /// The root, and free cells.
+    /// Returns a pool of the root and free cells.
     pub(crate) fn new(alloc: Global) -> Result<CellPool, AllocError>
         ensures { IfOk result IsEmpty }
     {
-        let cells = new_cells(alloc, FIRST_CELLS)?;
+        let cells = new_cells(alloc, INITIAL_CELLS)?;
         Ok(CellPool {
             cells,
             top: WIDTH + 1,
-            start: LIST,
+            start: RING_HEAD,
         })
     }
 
-    /// How many cells there are.
+    /// Returns the number of cells.
     pub(crate) fn len(&self) -> usize
         ensures length { result ≡ length self.now.cells }
         ensures few { result ≤ 2 ^ 30 }
@@ -66,14 +66,14 @@ impl CellPool {
         self.cells.len()
     }
 
-    /// The number from which on all cells are free.
+    /// Returns the index from which on all cells are free.
     pub(crate) fn top(&self) -> usize
         ensures { result ≡ self.now.top }
     {
         self.top
     }
 
-    /// Lowers the top to where the used cells end, or to 258 if they end before.
+    /// Lowers the top to the end of the used cells, but not below 258.
     pub(crate) fn lower_top(&mut self)
         ensures cells { self.new.cells ≡ self.old.cells }
         ensures low { self.new.top ≤ self.old.top }
@@ -84,7 +84,7 @@ impl CellPool {
         self.top = lowered(&self.cells, self.top, self.start);
     }
 
-    /// A cell as it is seen from outside.
+    /// Returns cell `i` without its links: a free cell is (0, -1).
     pub(crate) fn cell(&self, i: usize) -> (i32, i32)
         requires { i < length self.now.cells }
         ensures { slice_get self.now.cells i ≡ Some result }
@@ -97,7 +97,7 @@ impl CellPool {
         }
     }
 
-    /// Whether the check of a cell is this state.
+    /// Returns whether the check of cell `i` is `state`.
     pub(crate) fn is_child(&self, i: usize, state: usize) -> bool
         requires { i < length self.now.cells }
         ensures { IsTrue result ↔ (check_of self.now.cells i ≡ pos state) }
@@ -106,7 +106,7 @@ impl CellPool {
         check >= 0 && check as usize == state
     }
 
-    /// The state whose child a cell is, if it is one's.
+    /// Returns the state whose child cell `i` is, if it is one.
     pub(crate) fn parent(&self, i: usize) -> Option<usize>
         requires { i < length self.now.cells }
         ensures { IsParent self.now.cells i result }
@@ -119,7 +119,7 @@ impl CellPool {
         }
     }
 
-    /// The base of a state.
+    /// Returns the base of `state`.
     pub(crate) fn base(&self, state: usize) -> usize
         requires within { state < length self.now.cells }
         requires state { (b : ℕ) × (base_of self.now.cells state ≡ pos b) }
@@ -129,7 +129,7 @@ impl CellPool {
         base as usize
     }
 
-    /// Takes a free cell from the ring, and fills it.
+    /// Removes free cell `i` from the ring, and fills it.
     pub(crate) fn take_free_cell(&mut self, i: usize, base: i32, state: usize)
         requires free { cell_at self.old.cells i ≡ free_cell }
         requires inner { 2 ≤ i }
@@ -143,17 +143,17 @@ impl CellPool {
         self.top = self.top.max(i + 1);
     }
 
-    /// Gives a used cell back to the ring.
-    pub(crate) fn give_free_cell(&mut self, i: usize)
+    /// Puts used cell `i` back on the ring.
+    pub(crate) fn release_cell(&mut self, i: usize)
         requires above { 0 < i }
         requires used { (s : ℕ) × (check_of self.old.cells i ≡ pos s) }
         ensures cells { self.new.cells ≡ slice_set self.old.cells i free_cell }
         ensures top { self.new.top ≡ self.old.top }
     {
-        link(&mut self.cells, i, LIST);
+        link(&mut self.cells, i, RING_HEAD);
     }
 
-    /// Changes the base of the root or of a used cell.
+    /// Changes the base of cell `i`, which is the root or used.
     pub(crate) fn set_base(&mut self, i: usize, base: i32)
         requires used { IsInUse self.old.cells i }
         requires within { i < length self.old.cells }
@@ -164,7 +164,7 @@ impl CellPool {
         change_base(&mut self.cells, i, base);
     }
 
-    /// Gives the root or a used cell the base of a state.
+    /// Makes cell `i`, which is the root or used, a state with this base.
     pub(crate) fn set_state_base(&mut self, i: usize, base: usize)
         requires used { IsInUse self.old.cells i }
         requires within { i < length self.old.cells }
@@ -176,7 +176,7 @@ impl CellPool {
         self.set_base(i, base as i32);
     }
 
-    /// Changes the check of a used cell.
+    /// Changes the check of used cell `i`.
     pub(crate) fn set_check(&mut self, i: usize, state: usize)
         requires above { 0 < i }
         requires used { (s : ℕ) × (check_of self.old.cells i ≡ pos s) }
@@ -188,7 +188,7 @@ impl CellPool {
         change_check(&mut self.cells, i, state);
     }
 
-    /// A base of at least 2 for one code, whose cell is free and at most the top.
+    /// Returns a base of at least 2 from which the cell of `code` is free and at most the top.
     pub(crate) fn find_free_cell(&self, code: usize) -> usize
         requires { code ≤ 256 }
         ensures least { 2 ≤ result }
@@ -198,10 +198,11 @@ impl CellPool {
         search_cell(&self.cells, self.top, self.start, code)
     }
 
-    /// A base of at least 2 and at most the top, from which all codes of a family are free.
+    /// Returns a base of at least 2 and at most the top, from which the cells of all codes of a
+    /// family are free.
     pub(crate) fn find_free_base(&mut self, family: &[bool]) -> usize
         requires { length family.now ≡ 257 }
-        ensures kept { self.new ≡ self.old }
+        ensures unchanged { self.new ≡ self.old }
         ensures least { 2 ≤ result }
         ensures top { result ≤ self.old.top }
         ensures free { FitsAt self.old.cells family.now result }
@@ -211,13 +212,13 @@ impl CellPool {
         found.base
     }
 
-    /// Appends free cells, up to `n` cells in all.
+    /// Appends free cells up to a total of `n` cells. On an error nothing changes.
     pub(crate) fn grow(&mut self, n: usize) -> Result<(), AllocError>
         requires more { length self.old.cells ≤ n }
         requires few { n ≤ 2 ^ 30 }
         ensures grown { OnOk result (IsGrown self.old.cells self.new.cells n) }
         ensures top { OnOk result (self.new.top ≡ self.old.top) }
-        ensures kept { OnErr result (self.new ≡ self.old) }
+        ensures unchanged { OnErr result (self.new ≡ self.old) }
     {
         let from = self.cells.len();
         self.cells.grow(n)?;
@@ -226,7 +227,7 @@ impl CellPool {
     }
 }
 
-/// A free cell other than `i`: `start`, or the one after it.
+/// Returns a free cell other than `i`: `start`, or the one after it.
 fn start_without(cells: &Cells, start: usize, i: usize) -> usize
     requires ring { IsRing cells.now }
     requires start { HasLinks cells.now start }
@@ -241,12 +242,12 @@ fn start_without(cells: &Cells, start: usize, i: usize) -> usize
     }
 }
 
-/// Where the used cells before the top end, or 258 if they end before.
+/// Returns the end of the used cells below `top`, but at least 258.
 fn lowered(cells: &Cells, top: usize, start: usize) -> usize
     requires { IsPool cells.now top start }
     ensures pool { IsPool cells.now result start }
     ensures low { result ≤ top }
-    ensures last { IsLowered (cells_as_seen cells.now) result }
+    ensures last { IsLowered (cell_views cells.now) result }
 {
     let mut top = top;
     while top > WIDTH + 1 && cells.get(top - 1).1 < 0 {
@@ -255,15 +256,15 @@ fn lowered(cells: &Cells, top: usize, start: usize) -> usize
     top
 }
 
-/// The root, which has no child, and free cells on the ring.
+/// Returns `n` cells: the root without children, and free cells on the ring.
 fn new_cells(alloc: Global, n: usize) -> Result<Cells, AllocError>
     requires some { 2 ≤ n }
     requires few { n ≤ 2 ^ 30 }
     ensures { IfOk result (λ cells. IsNew cells n) }
 {
     let mut cells = Cells::new(alloc, n)?;
-    cells.set(0, LEAST_BASE as i32, -2);
-    set_links(&mut cells, LIST, LIST, LIST);
-    link_from(&mut cells, LIST + 1);
+    cells.set(0, BASE_MIN as i32, -2);
+    set_links(&mut cells, RING_HEAD, RING_HEAD, RING_HEAD);
+    link_from(&mut cells, RING_HEAD + 1);
     Ok(cells)
 }

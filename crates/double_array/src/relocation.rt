@@ -1,15 +1,15 @@
 //! Relocation: the children of a state move to another base. (Aoe 1989)
 ghost use Rattle.std.specs.Prelude.{◌≡◌, ◌≢◌, ℕ, ◌+◌, ◌<◌, ◌≤◌, ◌^◌, max, pos, length};
-ghost use Rattle.cell_walk.specs.CellMap.{free_cell, cell_at, base as base_of, check as check_of};
+ghost use Rattle.mj_model.specs.CellMap.{free_cell, cell_at, base as base_of, check as check_of};
 ghost use Rattle.double_array.specs.CellMoves.{IsMove};
 ghost use Rattle.double_array.specs.Family.{HasCode, FitsAt};
-ghost use Rattle.double_array.specs.Built.{IsBuilt, AreBases};
+ghost use Rattle.double_array.specs.Built.{MeetsInvariants, AreBases};
 ghost use Rattle.double_array.specs.Moved.{children};
 ghost use Rattle.double_array.specs.Moves.{IsFamilyOf, IsChildMoved, AreChildrenRenamed, HasChildrenFromBase};
 
 use crate::pool::{CellPool, WIDTH};
 
-/// The codes of a state's children. `from` is its base.
+/// Returns the codes of the children of `state`, whose base is `from`.
 pub(crate) fn family_of(pool: &CellPool, state: usize, from: usize) -> [bool; WIDTH]
     requires within { from + 257 ≤ length pool.now.cells }
     requires few { length pool.now.cells ≤ 2 ^ 30 }
@@ -22,8 +22,10 @@ pub(crate) fn family_of(pool: &CellPool, state: usize, from: usize) -> [bool; WI
     family
 }
 
-/// Moves the children of a state to the base `to`, and answers how many they are. `from` is the state's base, and `family`
-/// its children's codes, collected before: a search while they move would meet moved ones again.
+/// Moves the children of `state` from its base `from` to the base `to`, and returns their number.
+///
+/// `family` has the codes of the children. They are collected before the move, because a search
+/// during it would find moved children again.
 pub(crate) fn relocate(
     pool: &mut CellPool,
     state: usize,
@@ -31,7 +33,7 @@ pub(crate) fn relocate(
     family: &[bool],
     to: usize,
 ) -> u32
-    requires built { IsBuilt pool.old }
+    requires built { MeetsInvariants pool.old }
     requires based { base_of pool.old.cells state ≡ pos from }
     requires some { 2 ≤ from }
     requires family { IsFamilyOf pool.old.cells state from family.now }
@@ -58,7 +60,7 @@ pub(crate) fn relocate(
     moved
 }
 
-/// Moves a child to a free cell.
+/// Moves the child of `state` in cell `old` to the free cell `new`.
 fn move_child(pool: &mut CellPool, state: usize, old: usize, new: usize)
     requires child { check_of pool.old.cells old ≡ pos state }
     requires above { 0 < old }
@@ -77,10 +79,11 @@ fn move_child(pool: &mut CellPool, state: usize, old: usize, new: usize)
     let (base, _) = pool.cell(old);
     pool.take_free_cell(new, base, state);
     rename_children(pool, base, old, new);
-    pool.give_free_cell(old);
+    pool.release_cell(old);
 }
 
-/// Makes the children of cell `old` children of cell `new`. A value cell, whose base is negative, has none.
+/// Makes the children of cell `old` children of cell `new`. A value cell, whose base is negative,
+/// has none.
 fn rename_children(pool: &mut CellPool, base: i32, old: usize, new: usize)
     requires apart { old ≢ new }
     requires new { new ≤ 2 ^ 30 }
@@ -94,7 +97,7 @@ fn rename_children(pool: &mut CellPool, base: i32, old: usize, new: usize)
     }
 }
 
-/// Renames a check in the cells from a base on.
+/// Changes the check from `old` to `new` in the cells from `base` on.
 fn rename_checks(pool: &mut CellPool, base: usize, old: usize, new: usize)
     requires apart { old ≢ new }
     requires new { new ≤ 2 ^ 30 }

@@ -1,16 +1,17 @@
-//! The ring of the free cells, which is doubly linked. A free cell holds the number of the next one as its base, and minus
-//! that of the one before as its check. Cell `LIST` is always on the ring, so the ring is never empty.
+//! The doubly linked ring of free cells. The base of a free cell is the index of the next one, and
+//! its check is the negated index of the one before. Cell `RING_HEAD` is always on the ring, so
+//! that the ring is never empty.
 ghost use Rattle.std.specs.Prelude.{◌≡◌, ◌≢◌, ◌^◌, ◌<◌, ◌≤◌, ℕ, pos, neg_ℤ, length, slice_set};
-ghost use Rattle.cell_walk.specs.CellMap.{free_cell, cell_at, base as base_of, check as check_of};
-ghost use Rattle.double_array.specs.Seen.{cells_as_seen};
+ghost use Rattle.mj_model.specs.CellMap.{free_cell, cell_at, base as base_of, check as check_of};
+ghost use Rattle.double_array.specs.Views.{cell_views};
 ghost use Rattle.double_array.specs.Ring.{HasLinks, IsRing, AreLinked};
 
 use cells::Cells;
 
-/// The cell where the ring begins.
-pub(crate) const LIST: usize = 1;
+/// The first cell of the ring.
+pub(crate) const RING_HEAD: usize = 1;
 
-/// The free cell after a free one.
+/// Returns the free cell after the free cell `i`.
 pub(crate) fn next(cells: &Cells, i: usize) -> usize
     requires { HasLinks cells.now i }
     ensures { base_of cells.now i ≡ pos result }
@@ -18,7 +19,7 @@ pub(crate) fn next(cells: &Cells, i: usize) -> usize
     cells.get(i).0 as usize
 }
 
-/// The free cell before a free one.
+/// Returns the free cell before the free cell `i`.
 pub(crate) fn before(cells: &Cells, i: usize) -> usize
     requires { HasLinks cells.now i }
     ensures { check_of cells.now i ≡ neg_ℤ (pos result) }
@@ -60,7 +61,7 @@ pub(crate) fn set_used(cells: &mut Cells, i: usize, base: i32, state: usize)
     cells.set(i, base, state as i32);
 }
 
-/// Changes the base of a cell.
+/// Changes the base of cell `i`.
 pub(crate) fn change_base(cells: &mut Cells, i: usize, base: i32)
     requires { i < length cells.old }
     ensures { cells.new ≡ slice_set cells.old i (base, check_of cells.old i) }
@@ -69,7 +70,7 @@ pub(crate) fn change_base(cells: &mut Cells, i: usize, base: i32)
     cells.set(i, base, check);
 }
 
-/// Changes the check of a cell.
+/// Changes the check of cell `i`.
 pub(crate) fn change_check(cells: &mut Cells, i: usize, state: usize)
     requires within { i < length cells.old }
     requires few { state ≤ 2 ^ 30 }
@@ -79,7 +80,7 @@ pub(crate) fn change_check(cells: &mut Cells, i: usize, state: usize)
     cells.set(i, base, state as i32);
 }
 
-/// Takes a free cell from the ring, and fills it.
+/// Removes free cell `i` from the ring, and fills it.
 pub(crate) fn take(cells: &mut Cells, i: usize, base: i32, state: usize)
     requires ring { IsRing cells.old }
     requires free { HasLinks cells.old i }
@@ -88,8 +89,8 @@ pub(crate) fn take(cells: &mut Cells, i: usize, base: i32, state: usize)
     requires few { length cells.old ≤ 2 ^ 30 }
     ensures ring { IsRing cells.new }
     ensures links { (j : ℕ) → j ≢ i → HasLinks cells.old j → HasLinks cells.new j }
-    ensures seen { cells_as_seen cells.new
-        ≡ slice_set (cells_as_seen cells.old) i (base, pos state) }
+    ensures seen { cell_views cells.new
+        ≡ slice_set (cell_views cells.old) i (base, pos state) }
 {
     let next = next(cells, i);
     let before = before(cells, i);
@@ -98,7 +99,7 @@ pub(crate) fn take(cells: &mut Cells, i: usize, base: i32, state: usize)
     set_used(cells, i, base, state);
 }
 
-/// Sets a cell that has no links on the ring, after a free one.
+/// Links cell `i` into the ring, after the free cell `after`.
 pub(crate) fn link(cells: &mut Cells, i: usize, after: usize)
     requires ring { IsRing cells.old }
     requires outside { HasLinks cells.old i → ⊥ }
@@ -111,7 +112,7 @@ pub(crate) fn link(cells: &mut Cells, i: usize, after: usize)
     ensures linked { HasLinks cells.new i }
     ensures others { (j : ℕ) → j ≢ i → (HasLinks cells.old j → ⊥)
         → cell_at cells.new j ≡ cell_at cells.old j }
-    ensures seen { cells_as_seen cells.new ≡ slice_set (cells_as_seen cells.old) i free_cell }
+    ensures seen { cell_views cells.new ≡ slice_set (cell_views cells.old) i free_cell }
 {
     let next = next(cells, after);
     set_next(cells, after, i);
@@ -119,7 +120,7 @@ pub(crate) fn link(cells: &mut Cells, i: usize, after: usize)
     set_before(cells, next, i);
 }
 
-/// Sets all cells from a number on, which have no links, on the ring.
+/// Links all cells from index `from` on into the ring.
 pub(crate) fn link_from(cells: &mut Cells, from: usize)
     requires ring { IsRing cells.old }
     requires linked { AreLinked cells.old from }
@@ -129,10 +130,10 @@ pub(crate) fn link_from(cells: &mut Cells, from: usize)
     ensures ring { IsRing cells.new }
     ensures linked { AreLinked cells.new (length cells.new) }
     ensures links { (j : ℕ) → HasLinks cells.old j → HasLinks cells.new j }
-    ensures seen { cells_as_seen cells.new ≡ cells_as_seen cells.old }
+    ensures seen { cell_views cells.new ≡ cell_views cells.old }
 {
     for i in from..cells.len() {
-        let last = before(cells, LIST);
+        let last = before(cells, RING_HEAD);
         link(cells, i, last);
     }
 }

@@ -1,16 +1,16 @@
-//! The end of a key that is new: a cell for each code, each a child of the one before.
+//! The end of a new key: a cell for each code, each a child of the one before.
 ghost use Rattle.std.specs.Prelude.{◌≡◌, ◌+◌, ◌-◌, ◌<◌, ◌≤◌, ◌^◌, max, pos, negsuc, length, slice_set, slice_index};
-ghost use Rattle.cell_walk.specs.CellMap.{free_cell, cell_at, codes_of, IsMapWith};
-ghost use Rattle.double_array.specs.Built.{IsBuilt, values};
-ghost use Rattle.double_array.specs.Tail.{AreKept, IsReady, IsStateAdded};
+ghost use Rattle.mj_model.specs.CellMap.{free_cell, cell_at, codes_of, IsMapWith};
+ghost use Rattle.double_array.specs.Built.{MeetsInvariants, values};
+ghost use Rattle.double_array.specs.Tail.{AreUnchanged, IsReady, IsStateAdded};
 
-use crate::pool::{CellPool, LEAST_BASE};
+use crate::pool::{BASE_MIN, CellPool};
 
-/// The code of a key at an index: that of the byte, or 0 at the key's end.
+/// Returns code `i` of a key: the code of the byte, or 0 at the end of the key.
 pub(crate) fn code_at(key: &[u8], i: usize) -> usize
     requires { i ≤ length key.now }
     ensures code { result ≡ slice_index (codes_of key.now) i }
-    ensures near { result ≤ 256 }
+    ensures bounded { result ≤ 256 }
 {
     if i < key.len() {
         key[i] as usize + 1
@@ -19,8 +19,10 @@ pub(crate) fn code_at(key: &[u8], i: usize) -> usize
     }
 }
 
-/// Adds the cells of a key's codes from `used` on, and the value in the last one. The codes before lead to `state`, and
-/// `wanted` is where its step on the next one leads.
+/// Adds the cells for a key's codes from index `used` on, and stores the value in the last one.
+///
+/// The codes before `used` lead to `state`, and `wanted` is the free cell of its step on the next
+/// code.
 pub(crate) fn add_tail(
     pool: &mut CellPool,
     key: &[u8],
@@ -33,8 +35,8 @@ pub(crate) fn add_tail(
     requires ready { IsReady pool.old key.now used state wanted }
     requires value { value < values }
     ensures map { IsMapWith pool.old.cells pool.new.cells key.now value }
-    ensures built { IsBuilt pool.new }
-    ensures kept { AreKept pool.old.cells pool.new.cells }
+    ensures built { MeetsInvariants pool.new }
+    ensures unchanged { AreUnchanged pool.old.cells pool.new.cells }
     ensures long { length pool.new.cells ≡ length pool.old.cells }
 {
     let mut state = state;
@@ -47,8 +49,8 @@ pub(crate) fn add_tail(
     add_value(pool, state, wanted, value);
 }
 
-/// Makes a free cell a state, the child of another one, with a base from which the cell of the next code is free. Answers
-/// that cell.
+/// Makes the free cell `wanted` a state and a child of `state`. Its base leaves the cell of the
+/// next code free, and that cell is returned.
 fn add_state(pool: &mut CellPool, state: usize, wanted: usize, next_code: usize) -> usize
     requires free { cell_at pool.old.cells wanted ≡ free_cell }
     requires inner { 2 ≤ wanted }
@@ -59,13 +61,13 @@ fn add_state(pool: &mut CellPool, state: usize, wanted: usize, next_code: usize)
     requires code { next_code ≤ 256 }
     ensures { IsStateAdded pool.old pool.new state wanted next_code result }
 {
-    pool.take_free_cell(wanted, LEAST_BASE as i32, state);
+    pool.take_free_cell(wanted, BASE_MIN as i32, state);
     let base = pool.find_free_cell(next_code);
     pool.set_state_base(wanted, base);
     base + next_code
 }
 
-/// Makes a free cell a value cell, the child of a state.
+/// Makes the free cell `wanted` a value cell and a child of `state`.
 fn add_value(pool: &mut CellPool, state: usize, wanted: usize, value: u32)
     requires free { cell_at pool.old.cells wanted ≡ free_cell }
     requires inner { 2 ≤ wanted }
@@ -78,7 +80,7 @@ fn add_value(pool: &mut CellPool, state: usize, wanted: usize, value: u32)
     pool.take_free_cell(wanted, value_base(value), state);
 }
 
-/// The base of a value cell.
+/// Returns the base of a value cell.
 pub(crate) fn value_base(value: u32) -> i32
     requires { value < values }
     ensures { result ≡ negsuc value }

@@ -3,8 +3,8 @@ use Rattle.std.proofs.Common.{◌≡◌, ℕ, ◌+◌, ◌-◌, ◌*◌, Bool, t
 use Rattle.std.specs.Prelude.{All, flat_map, slice_range, ◌==◌}
 use Rattle.std.proofs.lemmas.List.{take_at, drop_at}
 use Rattle.mj_model.specs.CharDef.{NamedCategory, IsStorable}
-use Rattle.image_bytes.specs.ImageBytes.{number_at}
-use Rattle.image_bytes.specs.ImageSections.{category_bytes, categories_in, first_category, flag_byte}
+use Rattle.image_format.specs.ImageBytes.{number_at}
+use Rattle.image_format.specs.ImageSections.{category_bytes, categories_in, first_category, flag_byte}
 use Rattle.char_def.specs.Categories.{CharCategories}
 use Rattle.image_writer.specs.StoredTables.{AreCategoriesOf}
 
@@ -15,7 +15,7 @@ flag_back : (b : Bool) → (flag_byte b + 256 * 0 == 1) ≡ b
 flag_back true = refl
 flag_back false = refl
 
--- the first category of some, where others stand behind it
+-- the first category, followed by others
 first_back : (c : NamedCategory) (rest : List ℕ) → first_category (category_bytes c ++ rest) ≡ c
 first_back c rest =
     let n : number_at 1 (category_bytes c ++ rest) 3 ≡ length c.name = byte_back (length c.name) in

@@ -1,4 +1,4 @@
--- Cells and starts that are written behind others are read back.
+-- Cells and starts that are appended to others are read back.
 use Rattle.std.proofs.Common.{◌≡◌, ℕ, ◌+◌, ◌*◌, ◌/◌, ◌^◌, ◌<◌, ℤ, List, [], ◌++◌, length, Some, inl, inr, sym, ap, ◌∙◌, refl, arith}
 use Rattle.std.specs.Prelude.{slice_get}
 use Rattle.std.specs.Int.{w32, cast_signed, cast_unsigned}
@@ -11,12 +11,12 @@ use Rattle.std.proofs.lemmas.Option.{get_or_from_slice_get}
 use mir.Val.{SFits}
 use Rattle.byteorder.specs.Endian.{little_bytes}
 use Rattle.byteorder.specs.Numbers.{length-bytes_low_first}
-use Rattle.cell_walk.specs.CellMap.{Cell, cell_at, free_cell}
-use Rattle.image_bytes.specs.ImageBytes.{signed_4_at}
-use Rattle.image_bytes.specs.ImageSections.{stored_cell, stored_cells}
+use Rattle.mj_model.specs.CellMap.{Cell, cell_at, free_cell}
+use Rattle.image_format.specs.ImageBytes.{signed_4_at}
+use Rattle.image_format.specs.ImageSections.{stored_cell, stored_cells}
 use Rattle.image_writer.specs.TokenBytes.{cell_bytes_of}
 use Rattle.image_writer.specs.Written.{HoldsCells, HoldsNumbers}
-use Rattle.image_bytes.proofs.NumberLemmas.{number_kept, number_behind, number_back}
+use Rattle.image_format.proofs.NumberLemmas.{number_kept, number_behind, number_back}
 
 -- ---- numbers of 4 bytes
 

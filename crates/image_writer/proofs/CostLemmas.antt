@@ -6,13 +6,13 @@ use mir.Val.{SFits}
 use Rattle.std.proofs.lemmas.Int.{ints, to_z-of_z}
 use Rattle.std.proofs.Math.Facts.{Fits-of_z}
 use Rattle.byteorder.specs.Numbers.{length-bytes_low_first}
-use Rattle.image_bytes.specs.ImageBytes.{number_at}
-use Rattle.image_bytes.specs.ImageSections.{stored_cost}
+use Rattle.image_format.specs.ImageBytes.{number_at}
+use Rattle.image_format.specs.ImageSections.{stored_cost}
 use Rattle.matrix_def.specs.Costs.{CostTable, IsCost, IsMatrix, cell_at}
 use Rattle.matrix_def.proofs.RowLemmas.{within_table}
-use Rattle.image_bytes.proofs.NumberLemmas.{number_back}
+use Rattle.image_format.proofs.NumberLemmas.{number_back}
 use Rattle.image_writer.specs.StoredTables.{AreCostsOf, cost_bytes, cost_section}
-use Rattle.image_bytes.proofs.ItemLemmas.{items_length, item_at}
+use Rattle.image_format.proofs.ItemLemmas.{items_length, item_at}
 
 two_bytes : (z : ℤ) → length (cost_bytes z) ≡ 2
 two_bytes z = length-bytes_low_first 0 2 (cast_unsigned w16 z)
@@ -36,6 +36,6 @@ costs_are m bytes formed is = record {
 pub costs_length : (costs : List ℤ) → length (cost_section costs) ≡ 2 * length costs
 costs_length costs = items_length cost_bytes 2 two_bytes costs
 
--- the same of a table's own costs
+-- the costs of a table
 pub own_costs_are : (m : CostTable) → IsMatrix m → AreCostsOf m (cost_section m.costs)
 own_costs_are m formed = costs_are m (cost_section m.costs) formed refl

@@ -1,4 +1,4 @@
--- Texts that are kept once each: what one more text adds, and how many bytes they have.
+-- Distinct texts: the effect of one more text, and their length in bytes.
 use Rattle.std.proofs.Common.{◌≡◌, ℕ, ◌+◌, ◌<◌, ◌≤◌, Bool, true, false, cond, not, ◌||◌, inl, inr, List, [], ◌∷◌, ◌++◌, length, map, filter, get_or, Some, None, sym, ap, ◌∙◌, refl, arith, subst, append_assoc}
 use Rattle.std.specs.Prelude.{bytes_eq, slice_get, sum_by}
 use Rattle.std.specs.List.{concat, list_any, enumerate_from}
@@ -9,7 +9,7 @@ use Rattle.std.proofs.lemmas.List.Folds.{list_any_at}
 use Rattle.std.proofs.lemmas.List.Sums.{sum_by_push}
 use Rattle.std.proofs.lemmas.Option.{get_or_from_slice_get}
 use Rattle.std.proofs.lemmas.Slice.Eq.{bytes_eq-Decides}
-use Rattle.image_bytes.specs.ImageBounds.{each_once, feature_bytes, feature_bytes_end}
+use Rattle.image_format.specs.ImageBounds.{each_once, feature_bytes, feature_bytes_end}
 use Rattle.mj_model.specs.Lexicon.{Row}
 use Rattle.mj_model.specs.Tables.{Token}
 use Rattle.mj_model.specs.UnkDef.{token_of}
@@ -17,8 +17,8 @@ use Rattle.image_writer.specs.declared.feature_place.FeaturePlace.{FeaturePlace}
 use Rattle.image_writer.specs.declared.features.FeatureStore.{FeatureStore}
 use Rattle.image_writer.specs.Compact.{features_once}
 use Rattle.image_writer.specs.Entries.{tokens_of}
-use Rattle.image_writer.specs.Sections.{HasPlace, HoldsTexts, HoldsOneMore, IsNextUse, IsPlaced, StandsAt, features_in, features_of, place_behind, IsTooLarge}
-use Rattle.image_bytes.proofs.NumberLemmas.{range_kept, range_behind}
+use Rattle.image_writer.specs.Sections.{HasPlace, HoldsTexts, HoldsOneMore, IsNextUse, IsPlaced, HasTextAt, features_in, features_of, place_after, IsTooLarge}
+use Rattle.image_format.proofs.NumberLemmas.{range_kept, range_behind}
 use Rattle.image_writer.proofs.FirstUseLemmas.{beyond, within}
 use Rattle.image_writer.proofs.TokenLemmas.{in_pushed}
 
@@ -59,7 +59,7 @@ sum_once : (f : List ℕ → ℕ) (once : List (List ℕ)) (x : List ℕ) (there
 sum_once f once x true = omega arith
 sum_once f once x false = sum_by_push f once x
 
--- a text adds its size where it is new
+-- a new text adds its size
 pub sum_once_more : (f : List ℕ → ℕ) (xs : List (List ℕ)) (x : List ℕ) → sum_by f (each_once (xs ++ x ∷ [])) ≡ sum_by f (each_once xs) + cond (list_any (bytes_eq x) xs) 0 (f x)
 sum_once_more f xs x = ap (sum_by f) (each_once_more xs x) ∙ sum_once f (each_once xs) x (list_any (bytes_eq x) xs)
 
@@ -72,7 +72,7 @@ sum_once_rises f xs (y ∷ ys) =
     subst (λ (zs : List (List ℕ)). sum_by f (each_once xs) ≤ sum_by f (each_once zs)) (append_assoc xs (y ∷ []) ys)
     (omega (arith, one, rest))
 
--- ---- the texts one behind another
+-- ---- the concatenation of texts
 
 concat_more : (texts : List (List ℕ)) (text : List ℕ) → concat texts ++ text ≡ concat (texts ++ text ∷ [])
 concat_more [] text = sym (append-nil text)
@@ -83,16 +83,16 @@ size_of texts store holds = ap length (holds.bytes ∙ concat_is (each_once text
 
 -- ---- the store
 
-stands_more : (bytes more text : List ℕ) (place : ℕ) → StandsAt bytes text place → StandsAt (bytes ++ more) text place
-stands_more bytes more text place stands = record {
-  within = let w = stands.within in let e = length-append bytes more in omega (arith, w, e);
-  is = range_kept bytes more place (place + length text) (omega arith) stands.within ∙ stands.is;
+stands_more : (bytes more text : List ℕ) (place : ℕ) → HasTextAt bytes text place → HasTextAt (bytes ++ more) text place
+stands_more bytes more text place is_stored = record {
+  within = let w = is_stored.within in let e = length-append bytes more in omega (arith, w, e);
+  is = range_kept bytes more place (place + length text) (omega arith) is_stored.within ∙ is_stored.is;
 }
 
-stands_behind : (bytes text : List ℕ) → StandsAt (bytes ++ text) text (length bytes)
+stands_behind : (bytes text : List ℕ) → HasTextAt (bytes ++ text) text (length bytes)
 stands_behind bytes text = record { within = let e = length-append bytes text in omega (arith, e); is = range_behind bytes text }
 
--- a text that was there before
+-- a text that was stored before
 pub found_placed : (texts : List (List ℕ)) (text : List ℕ) (store : FeatureStore) (first : ℕ) (place : FeaturePlace) → HoldsTexts texts store → IsNextUse texts text first
     → slice_get store.places.items first ≡ Some place → IsPlaced texts text store store place
 found_placed texts text store first place holds next at =
@@ -101,7 +101,7 @@ found_placed texts text store first place holds next at =
     let any : list_any (bytes_eq text) texts ≡ true = list_any_at (bytes_eq text) texts first text less ((bytes_eq-Decides text (get_or texts first text)).1 (sym (get_or_from_slice_get texts first text text there))) in
     record {
       bytes = holds.bytes ∙ ap concat (sym (each_once_more texts text ∙ ap (once_with (each_once texts) text) any));
-      stands = holds.places first text place there at;
+      is_stored = holds.places first text place there at;
       same_places = refl;
       more = [];
       kept = sym (append-nil (features_in store));
@@ -110,19 +110,19 @@ found_placed texts text store first place holds next at =
 -- a new one, which is added at the end
 pub added_placed : (texts : List (List ℕ)) (text : List ℕ) (old new : FeatureStore) (first : ℕ) → HoldsTexts texts old → IsNextUse texts text first
     → slice_get old.places.items first ≡ None → features_in new ≡ features_in old ++ text → new.places.items ≡ old.places.items
-    → IsPlaced texts text old new (place_behind (features_in old) text)
+    → IsPlaced texts text old new (place_after (features_in old) text)
 added_placed texts text old new first holds next none added kept =
     let absent = next.new (let b = beyond old.places.items first none in let l = holds.long in omega (arith, b, l)) in
     record {
       bytes = added ∙ ap (λ (bytes : List ℕ). bytes ++ text) holds.bytes ∙ concat_more (each_once texts) text
           ∙ ap concat (sym (each_once_more texts text ∙ ap (once_with (each_once texts) text) absent));
-      stands = record { stands = subst (λ (bytes : List ℕ). StandsAt bytes text (length (features_in old))) (sym added) (stands_behind (features_in old) text); long = refl };
+      is_stored = record { is_stored = subst (λ (bytes : List ℕ). HasTextAt bytes text (length (features_in old))) (sym added) (stands_behind (features_in old) text); long = refl };
       same_places = kept;
       more = text;
       kept = added;
     }
 
--- where a new text finds no room, the texts are too large
+-- if a new text does not fit, the texts are too large
 pub no_room : (texts : List (List ℕ)) (text : List ℕ) (store : FeatureStore) (first : ℕ) → HoldsTexts texts store → IsNextUse texts text first
     → slice_get store.places.items first ≡ None
     → feature_bytes_end ≤ length (features_in store) + length text → feature_bytes_end ≤ sum_by length (each_once (texts ++ text ∷ []))
@@ -133,13 +133,13 @@ no_room texts text store first holds next none full =
     let size = size_of texts store holds in
     omega (arith, sum, size, full)
 
--- its place is noted
+-- its position is stored
 pub place_noted : (texts : List (List ℕ)) (text : List ℕ) (old placed new : FeatureStore) (place : FeaturePlace) → HoldsTexts texts old → IsPlaced texts text old placed place
     → features_in new ≡ features_in placed → new.places.items ≡ placed.places.items ++ place ∷ [] → HoldsOneMore texts text old new place
 place_noted texts text old placed new place holds is same noted =
     let places : new.places.items ≡ old.places.items ++ place ∷ [] = noted ∙ ap (λ (ps : List FeaturePlace). ps ++ place ∷ []) is.same_places in
     let kept = same ∙ is.kept in
-    let stands = subst (λ (bytes : List ℕ). HasPlace bytes text place) (sym same) is.stands in
+    let is_stored = subst (λ (bytes : List ℕ). HasPlace bytes text place) (sym same) is.is_stored in
     let long = holds.long in
     record {
       holds = record {
@@ -149,16 +149,16 @@ place_noted texts text old placed new place holds is same noted =
           | inl before ↦ elim (in_pushed old.places.items place i p (ap (λ (ps : List FeaturePlace). slice_get ps i) (sym places) ∙ at)) [
             | inl its ↦
                 let has = holds.places i t p before.1 its.1 in
-                record { stands = subst (λ (bytes : List ℕ). StandsAt bytes t p.start) (sym kept) (stands_more (features_in old) is.more t p.start has.stands); long = has.long }
+                record { is_stored = subst (λ (bytes : List ℕ). HasTextAt bytes t p.start) (sym kept) (stands_more (features_in old) is.more t p.start has.is_stored); long = has.long }
             | inr last ↦ let low = before.0 in let e = last.0 in absurd (omega (arith, low, e, long))
           ]
           | inr now ↦ elim (in_pushed old.places.items place i p (ap (λ (ps : List FeaturePlace). slice_get ps i) (sym places) ∙ at)) [
             | inl its ↦ let low = its.0 in let e = now.0 in absurd (omega (arith, low, e, long))
-            | inr last ↦ subst (λ (x : FeaturePlace). HasPlace (features_in new) t x) last.1 (subst (λ (x : List ℕ). HasPlace (features_in new) x place) now.1 stands)
+            | inr last ↦ subst (λ (x : FeaturePlace). HasPlace (features_in new) t x) last.1 (subst (λ (x : List ℕ). HasPlace (features_in new) x place) now.1 is_stored)
           ]
         ];
       };
-      stands = stands;
+      is_stored = is_stored;
       more = is.more;
       kept = kept;
     }

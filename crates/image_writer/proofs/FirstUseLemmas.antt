@@ -1,4 +1,5 @@
--- Sorted uses of features tell the first use of each: those of one feature stand side by side, in the order of their entries.
+-- Sorted uses of features determine the first use of each: uses of one feature are adjacent, in the
+-- order of their entries.
 use Rattle.std.proofs.Common.{◌≡◌, ◌≢◌, inl, inr, ℕ, zero, suc, ◌+◌, ◌-◌, ◌<◌, ◌≤◌, Bool, true, false, List, [], ◌∷◌, ◌++◌, length, take, get_or, Some, None, sym, ap, ◌∙◌, refl, arith, subst, true≢false}
 use Rattle.std.specs.Prelude.{All, IsPermutation, bytes_eq, slice_get, slice_index, slice_set}
 use Rattle.std.specs.List.{list_any, range_with_len}
@@ -28,7 +29,7 @@ no_use = record { mark = mark_of_bytes []; feature = record { ref_ptr = (0, 0); 
 
 -- ---- the order of uses
 
--- by marks and features alone
+-- by hashes and features alone
 heads : FeatureUse → FeatureUse → Ordering
 heads a b = ordering_then (nat_cmp a.mark b.mark) (slice_cmp nat_cmp a.feature.now b.feature.now)
 
@@ -47,7 +48,7 @@ is_use_below a b = is_lt (use_order a b)
 pub is_use_below_order : IsStrictWeakOrder is_use_below
 is_use_below_order = ranks_by order_total (λ (u : FeatureUse). u)
 
--- what is not below another is not so by marks and features
+-- a use that is not below another is not below it by hash and feature
 heads_not_below : (p q r : Ordering) → is_lt (ordering_then p (ordering_then q r)) ≡ false → is_lt (ordering_then p q) ≡ false
 heads_not_below Less q r h = h
 heads_not_below Equal Less r h = h
@@ -87,7 +88,7 @@ both_equal Less q e = absurd (true≢false (sym (ap is_eq e)))
 both_equal Equal q e = ap is_eq e
 both_equal Greater q e = absurd (true≢false (sym (ap is_eq e)))
 
--- what stands between two uses of a feature is a use of it
+-- a use between two uses of a feature is a use of it
 between : (a b c : FeatureUse) → is_use_below b a ≡ false → is_use_below c b ≡ false → a.feature.now ≡ c.feature.now → c.feature.now ≡ b.feature.now
 unfolding heads
 between a b c low high same =
@@ -100,7 +101,7 @@ between a b c low high same =
 
 -- ---- sorted uses
 
--- where an element is there, its number is below the length; and where none is, it is not
+-- if there is an element, its number is below the length, otherwise it is not
 pub within : {X : Type 0} (xs : List X) (i : ℕ) (x : X) → slice_get xs i ≡ Some x → i < length xs
 within xs i x there = elim (cases_lt i (length xs)) [
   | inl less ↦ less
@@ -144,12 +145,12 @@ module _ (texts : List (List ℕ)) (uses : List FeatureUse) (are : AreUses texts
       | inl before ↦
           let some : 0 < k = omega (arith, before) in
           absurd (new some (between (at p) (at (k - 1)) (at k) (in_order p (k - 1) (omega (arith, before)) (omega (arith, less))) (in_order (k - 1) k (omega arith) less) same))
-      | inr behind ↦
+      | inr following ↦
           not_less (at p).entry (at k).entry (nat_cmp (at p).entry (at k).entry) (ranked (at p).entry (at k).entry (nat_cmp (at p).entry (at k).entry) refl)
-          (ap is_lt (sym (entries_decide (at p) (at k) same)) ∙ in_order k p behind low)
+          (ap is_lt (sym (entries_decide (at p) (at k) same)) ∙ in_order k p following low)
     ]
 
-    -- where the use before is of another feature
+    -- if the use before is of another feature
     begins : (k : ℕ) → k < length uses → (0 < k → (at k).feature.now ≢ (at (k - 1)).feature.now) → IsFirstUse texts (at k).entry (at k).entry
     begins k less new = record {
       same = refl;
@@ -166,7 +167,7 @@ module _ (texts : List (List ℕ)) (uses : List FeatureUse) (are : AreUses texts
           omega (arith, le, entry);
     }
 
-    -- where it is of the same
+    -- if the use before is of the same feature
     goes_on : (k before : ℕ) → 0 < k → k < length uses → (at k).feature.now ≡ (at (k - 1)).feature.now → IsFirstUse texts before (at (k - 1)).entry → IsFirstUse texts before (at k).entry
     goes_on k before some less same first =
         let texts_same : slice_get texts (at (k - 1)).entry ≡ slice_get texts (at k).entry = text_at (k - 1) (omega (arith, less)) ∙ ap (λ (f : List ℕ). Some f) (sym same) ∙ sym (text_at k less) in
@@ -186,12 +187,13 @@ module _ (texts : List (List ℕ)) (uses : List FeatureUse) (are : AreUses texts
 
 -- ---- first uses, one after another
 
--- the first uses of the features of the first k uses are noted, and `first` is that of the last of them
+-- the first uses of the features of the first k uses are stored, and `first` is that of the last of
+-- them
 pub record AreFirstUpTo (texts : List (List ℕ)) (uses : List FeatureUse) (k first : ℕ) (firsts : List ℕ) : Type 0 where
   pub noted : (j : ℕ) → j < k → IsFirstUse texts (slice_index firsts (slice_index (entries_of uses) j)) (slice_index (entries_of uses) j)
   pub last : 0 < k → IsFirstUse texts first (slice_index (entries_of uses) (k - 1))
 
--- one more is noted
+-- one more first use is stored
 pub first_noted : (texts : List (List ℕ)) (uses : List FeatureUse) (k before first entry : ℕ) (firsts : List ℕ) → entry ≡ slice_index (entries_of uses) k → entry < length firsts
     → AreFirstUpTo texts uses k before firsts → IsFirstUse texts first (slice_index (entries_of uses) k) → AreFirstUpTo texts uses (k + 1) first (slice_set firsts entry first)
 first_noted texts uses k before first entry firsts is less up one = record {
@@ -276,7 +278,7 @@ uses_moved texts uses moved permutation are = record {
 
 -- ---- a text that comes next
 
--- where the first use of text i stands before it, it is the same text; and where it is i, no text before is the same
+-- if the first use of text i precedes it, the texts are equal; if it is i, no earlier text is equal
 pub first_before : (texts : List (List ℕ)) (text : List ℕ) (i first : ℕ) → IsFirstUse texts first i → slice_get texts i ≡ Some text → first < i → slice_get (take i texts) first ≡ Some text
 first_before texts text i first use_is there less =
     let low = within texts i text there in

@@ -1,10 +1,10 @@
--- An image that was put together of well-formed sections is well formed.
+-- An image composed of well-formed sections is well formed.
 use Rattle.std.proofs.Common.{◌≡◌, ℕ, suc, ◌≤◌, List, [], ◌∷◌, ◌++◌, length, sym, ap, ◌∙◌, subst, arith}
 use Rattle.std.specs.Prelude.{slice_index_or}
-use Rattle.image_bytes.specs.declared.header.Header.{Header}
-use Rattle.image_bytes.specs.ImageBytes.{header_length, header_of, section, section_end, total_length}
-use Rattle.image_bytes.specs.ImageFaults.{Test, IsIntact, PassAll, header_tests, key_tests, system_tests, token_tests}
-use Rattle.image_bytes.specs.Layouts.{IsReadLayout, key_form}
+use Rattle.image_format.specs.declared.header.Header.{Header}
+use Rattle.image_format.specs.ImageBytes.{header_length, header_of, section, section_end, total_length}
+use Rattle.image_format.specs.ImageFaults.{Test, IsIntact, PassAll, header_tests, key_tests, system_tests, token_tests}
+use Rattle.image_format.specs.Layouts.{IsReadLayout, key_form}
 use Rattle.image_writer.specs.Frames.{IsFramed}
 
 -- section k of some

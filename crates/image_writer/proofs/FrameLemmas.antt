@@ -1,4 +1,4 @@
--- What is read from an image that was put together.
+-- Reading back an image that was composed of parts.
 use Rattle.std.proofs.Common.{◌≡◌, ℕ, zero, suc, ◌+◌, ◌-◌, ◌*◌, ◌^◌, ◌<◌, ◌≤◌, List, [], ◌∷◌, ◌++◌, length, take, drop, refl, sym, ap, ◌∙◌, subst, arith, append_assoc, mul-le-mul_left}
 use Rattle.std.specs.Prelude.{ℤ, flat_map, map, slice_index, slice_index_or, slice_range, sum}
 use Rattle.std.proofs.lemmas.List.{append-nil, drop-append-le, drop_at, ext_get_or, length-append, length-map, take_all, take_at}
@@ -13,35 +13,35 @@ use Rattle.byteorder.specs.Endian.{little_bytes, little_number}
 use Rattle.byteorder.specs.Numbers.{length-bytes_low_first}
 use Rattle.std.specs.Borrow.{Bor}
 use Rattle.sha2.specs.Sha256.{sha256}
-use Rattle.image_bytes.specs.ImageBytes.{header_length, header_of, image_magic, number_at, section, section_end, section_start}
-use Rattle.image_bytes.specs.Layouts.{behind_sections}
-use Rattle.image_bytes.specs.declared.header.Header.{Header}
-use Rattle.image_bytes.specs.declared.kind.DictKind.{DictKind}
-use Rattle.image_bytes.specs.declared.kind.DictKind.TheVariants as dict
-use Rattle.image_bytes.specs.DictKinds.{IsKind, kind_numbered, number_of_kind}
+use Rattle.image_format.specs.ImageBytes.{header_length, header_of, image_magic, number_at, section, section_end, section_start}
+use Rattle.image_format.specs.Layouts.{bytes_after_sections}
+use Rattle.image_format.specs.declared.header.Header.{Header}
+use Rattle.image_format.specs.declared.kind.DictKind.{DictKind}
+use Rattle.image_format.specs.declared.kind.DictKind.TheVariants as dict
+use Rattle.image_format.specs.DictKinds.{IsKind, kind_numbered, number_of_kind}
 use Rattle.image_writer.specs.Frames.{AreShort, AreSmall, IsFramed, IsHeaderFor, all_sections, header_bytes, length_bytes, number_bytes, number_list}
 use Rattle.image_writer.specs.Places.{joined_texts}
 use Rattle.image_writer.specs.StoredTables.{cost_section}
-use Rattle.image_bytes.proofs.ItemLemmas.{item_at, items_length}
-use Rattle.image_bytes.proofs.NumberLemmas.{number_back}
+use Rattle.image_format.proofs.ItemLemmas.{item_at, items_length}
+use Rattle.image_format.proofs.NumberLemmas.{number_back}
 
--- number k of some of n bytes each, where others stand before and behind them
+-- number k of numbers of n bytes each, between other bytes
 pub number_in_list : (n : ℕ) (front : List ℕ) (numbers : List ℕ) (rest : List ℕ) (k at : ℕ) → at ≡ length front + n * k → k < length numbers → slice_index numbers k < 256 ^ n
     → number_at n (front ++ (flat_map (little_bytes n) numbers ++ rest)) at ≡ slice_index numbers k
 number_in_list n front numbers rest k at place less fits =
     let long : (x : ℕ) → length (little_bytes n x) ≡ n = λ x. length-bytes_low_first 0 n x in
     let whole = items_length (little_bytes n) n long numbers in
-    let behind = item_at (little_bytes n) n long numbers k 0 less in
+    let following = item_at (little_bytes n) n long numbers k 0 less in
     let low : n * k ≤ length (flat_map (little_bytes n) numbers) = subst (λ m. n * k ≤ m) (sym whole) (mul-le-mul_left n (omega (arith, less))) in
     ap (λ m. number_at n (front ++ (flat_map (little_bytes n) numbers ++ rest)) m) place
     ∙ ap (little_number n)
     (drop-append-add front (flat_map (little_bytes n) numbers ++ rest) (n * k)
     ∙ drop-append-le (n * k) (flat_map (little_bytes n) numbers) rest low
-    ∙ ap (λ (bytes : List ℕ). bytes ++ rest) behind
+    ∙ ap (λ (bytes : List ℕ). bytes ++ rest) following
     ∙ append_assoc (little_bytes n (slice_index numbers k)) (flat_map (little_bytes n) (drop (suc k) numbers)) rest)
     ∙ number_back n (slice_index numbers k) (flat_map (little_bytes n) (drop (suc k) numbers) ++ rest) fits
 
--- where section k begins and ends, behind a front
+-- the start and end of section k after a prefix
 abbrev pub start_of : List ℕ → List (List ℕ) → ℕ → ℕ
 start_of front sections k = length front + sum (take k (map length sections))
 
@@ -137,7 +137,7 @@ module _ (h : Header) (sections : List (List ℕ)) (eight : length sections ≡ 
       lengths = lengths_are i;
     }
 
-    -- where a section begins, by the header and by the sections
+    -- the start of a section, by the header and by the sections
     place_is : (k : ℕ) → header_length + sum (take k h.lengths) ≡ start_of header sections k
     place_is k = ap (λ (ls : List ℕ). header_length + sum (take k ls)) is_for.lengths ∙ ap (λ m. m + sum (take k (map length sections))) (sym header_long)
 
@@ -170,15 +170,15 @@ module _ (h : Header) (sections : List (List ℕ)) (eight : length sections ≡ 
           sections_are = sections_are;
           whole =
               let l = ap length is ∙ length-append body digest in
-              let behind : behind_sections h.layout ≡ 32 = ap behind_sections is_for.layout in
+              let following : bytes_after_sections h.layout ≡ 32 = ap bytes_after_sections is_for.layout in
               let end = end_is in
-              omega (arith, l, behind, end, digest_long);
+              omega (arith, l, following, end, digest_long);
           digest = λ three.
               ap (λ m. drop m image) e ∙ ap (drop (length body)) is ∙ drop_at body digest (length body) refl
               ∙ digest_is ∙ ap sha256 (sym (ap (λ m. take m image) e ∙ ap (take (length body)) is ∙ take_at body digest (length body) refl));
         }
 
--- an image whose parts were written one behind another
+-- an image whose parts were appended one after another
 pub frame_of : (h : Header) (costs : List ℤ) (given texts : List (Bor (List ℕ))) (start head some more all digest image : List ℕ) → length given ≡ 6
     → IsHeaderFor (all_sections costs given texts) h
     → AreSmall (number_list h) → AreShort h.lengths → start ≡ [] → head ≡ start ++ header_bytes h → some ≡ head ++ cost_section costs
@@ -191,12 +191,12 @@ frame_of h costs given texts start head some more all digest image six is_for sm
     let others : List (List ℕ) = map (λ (section : Bor (List ℕ)). section.now) given in
     let same : flat_map (λ (section : Bor (List ℕ)). section.now) given ≡ joined others =
     sym (flat_map-map (λ (section : List ℕ). section) (λ (section : Bor (List ℕ)). section.now) given) in
-    let behind : joined others ++ last ≡ joined (others ++ last ∷ []) =
+    let following : joined others ++ last ≡ joined (others ++ last ∷ []) =
     sym (flat_map-append (λ (section : List ℕ). section) others (last ∷ []) ∙ ap (λ (bytes : List ℕ). joined others ++ bytes) (append-nil last)) in
     let whole : all ≡ header_bytes h ++ joined (first ∷ (others ++ last ∷ [])) =
     all_is ∙ rw (more_is, some_is, header_is, none, same)
     (append_assoc (header_bytes h ++ first) (joined others) last ∙ append_assoc (header_bytes h) first (joined others ++ last)
-    ∙ ap (λ (bytes : List ℕ). header_bytes h ++ (first ++ bytes)) behind) in
+    ∙ ap (λ (bytes : List ℕ). header_bytes h ++ (first ++ bytes)) following) in
     let count : length (others ++ last ∷ []) ≡ 7 =
     length-append others (last ∷ []) ∙ ap (λ n. n + 1) (length-map given (λ (section : Bor (List ℕ)). section.now) ∙ six) in
     framed h (first ∷ (others ++ last ∷ [])) (ap suc count) is_for small short digest image

@@ -1,4 +1,4 @@
--- Entries in the byte order of their surfaces: those of one surface stand side by side.
+-- Entries in the byte order of their surfaces: those of one surface are adjacent.
 use Rattle.std.proofs.Common.{◌≡◌, ◌≢◌, ℕ, zero, suc, ◌+◌, ◌-◌, ◌<◌, ◌≤◌, ◌⊎◌, inl, inr, true, false, List, [], ◌∷◌, ◌++◌, length, get_or, Some, None, sym, ap, ◌∙◌, refl, arith, subst, true≢false}
 use Rattle.std.specs.Prelude.{IsSortedByKey, bytes_eq}
 use Rattle.std.specs.Cmp.Lexicographic.{slice_cmp}
@@ -13,11 +13,11 @@ use Rattle.std.proofs.lemmas.List.{get_or_append_left, get_or_push, get_or_past,
 use Rattle.std.proofs.lemmas.Option.{same_Some, none-some}
 use Rattle.std.proofs.lemmas.Slice.Eq.{bytes_eq-Decides}
 use Rattle.std.proofs.lemmas.Map.Text.{is_eq-slice_cmp}
-use Rattle.cell_walk.specs.CellMap.{Cell, value_of, IsMapWith}
+use Rattle.mj_model.specs.CellMap.{Cell, value_of, IsMapWith}
 use Rattle.mj_model.specs.Dictionary.{surface_of}
 use Rattle.mj_model.specs.Lexicon.{Row}
 use Rattle.image_writer.specs.Entries.{surface_at, no_row}
-use Rattle.image_writer.specs.Groups.{AreGroups, BeginsGroup, MapsGroups}
+use Rattle.image_writer.specs.Groups.{AreGroups, StartsGroup, MapsGroups}
 
 -- two surfaces are one or are not
 pub same_or_not : (xs ys : List ℕ) → (xs ≡ ys) ⊎ (xs ≢ ys)
@@ -44,8 +44,8 @@ no_later_before : (rows : List Row) → IsSortedByKey surface_of (slice_cmp nat_
 no_later_before rows sorted i j order less =
     sorted_far (λ (x y : Row). is_lt (slice_cmp nat_cmp x.surface y.surface)) (ranks_by nat_list_cmp_total surface_of) rows sorted i j no_row order less
 
--- where an entry differs from the one before it, no earlier entry has its surface
-pub new_surface : (rows : List Row) → IsSortedByKey surface_of (slice_cmp nat_cmp) rows → (i j : ℕ) → i < length rows → BeginsGroup rows i → j < i → surface_at rows j ≢ surface_at rows i
+-- if an entry differs from the one before it, no earlier entry has its surface
+pub new_surface : (rows : List Row) → IsSortedByKey surface_of (slice_cmp nat_cmp) rows → (i j : ℕ) → i < length rows → StartsGroup rows i → j < i → surface_at rows j ≢ surface_at rows i
 new_surface rows sorted i j less (inl first) before same = absurd (omega (arith, first, before))
 new_surface rows sorted i j less (inr differs) before same =
     differs (same_from_both (surface_at rows i) (surface_at rows (i - 1))
@@ -62,11 +62,11 @@ no_groups rows = record {
   few = omega arith;
 }
 
--- a start stays, whatever is seen
+-- a start does not change when more entries are seen
 start_kept : (starts more : List ℕ) (g seen now : ℕ) → g < length starts → get_or (starts ++ more) g now ≡ get_or starts g seen
 start_kept starts more g seen now less = get_or_append_left starts more now g less ∙ get_or_default starts g now seen less
 
--- the next entry begins a group
+-- the next entry starts a group
 pub group_begun : (rows : List Row) (seen : ℕ) (starts : List ℕ) → AreGroups rows seen starts → AreGroups rows (seen + 1) (starts ++ seen ∷ [])
 group_begun rows seen starts groups =
     let long = length_push starts seen in
@@ -150,7 +150,7 @@ map_goes_on rows seen starts cells maps = record {
   only = λ key g found. let o = maps.only key g found in (o.0, o.1 ∙ ap (surface_at rows) (get_or_default starts g seen (seen + 1) o.0));
 }
 
--- each group begins before what is seen
+-- each group starts before the number of entries seen
 start_below : (rows : List Row) (seen : ℕ) (starts : List ℕ) → AreGroups rows seen starts → (n g : ℕ) → g + n ≡ length starts → get_or starts g seen + n ≤ seen
 start_below rows seen starts groups zero g e = let p = get_or_past starts g seen (omega (arith, e)) in omega (arith, p)
 start_below rows seen starts groups (suc n) g e =
@@ -163,7 +163,7 @@ starts_below rows seen starts groups g less =
     let b = start_below rows seen starts groups (length starts - g) g (omega (arith, less)) in
     omega (arith, b, less)
 
-pub map_begun : (rows : List Row) → IsSortedByKey surface_of (slice_cmp nat_cmp) rows → (seen : ℕ) (starts : List ℕ) (old new : List Cell) → seen < length rows → AreGroups rows seen starts → MapsGroups rows seen starts old → BeginsGroup rows seen
+pub map_begun : (rows : List Row) → IsSortedByKey surface_of (slice_cmp nat_cmp) rows → (seen : ℕ) (starts : List ℕ) (old new : List Cell) → seen < length rows → AreGroups rows seen starts → MapsGroups rows seen starts old → StartsGroup rows seen
     → IsMapWith old new (surface_at rows seen) (length starts) → MapsGroups rows (seen + 1) (starts ++ seen ∷ []) new
 map_begun rows sorted seen starts old new less groups maps begins with =
     let long = length_push starts seen in

@@ -1,4 +1,5 @@
--- One entry more: whether it begins a group, how many cells its surface may take, and that the entries so far stay in their groups.
+-- One more entry: whether it starts a group, how many cells its surface may need, and that earlier
+-- entries stay in their groups.
 use Rattle.std.proofs.Common.{◌≡◌, ◌≢◌, ℕ, ◌+◌, ◌-◌, ◌<◌, ◌≤◌, ◌⊎◌, inl, inr, Bool, true, false, cond, not, List, [], ◌∷◌, ◌++◌, length, map, take, drop, get_or, None, sym, ap, ◌∙◌, refl, arith, subst, true≢false}
 use Rattle.std.specs.Prelude.{IsSortedByKey, sum_by, bytes_eq}
 use Rattle.std.specs.Cow.{cow_str_bytes}
@@ -11,14 +12,14 @@ use Rattle.std.proofs.lemmas.Bool.{cases_lt, false_from_ne_true}
 use Rattle.std.proofs.lemmas.List.{get_or-map, length-map, length-take, get_or-take, take_more, take-append-drop}
 use Rattle.std.proofs.lemmas.List.Folds.{list_any_none}
 use Rattle.std.proofs.lemmas.Slice.Eq.{bytes_eq-Decides}
-use Rattle.cell_walk.specs.CellMap.{Cell, value_of, IsMapWith}
-use Rattle.image_bytes.specs.ImageBounds.{each_once, most_cells, cells_max}
+use Rattle.mj_model.specs.CellMap.{Cell, value_of, IsMapWith}
+use Rattle.image_format.specs.ImageBounds.{each_once, most_cells, cells_max}
 use Rattle.mj_model.specs.Dictionary.{surface_of, lexeme_of}
 use Rattle.mj_model.specs.declared.entry.Record.{Record}
 use Rattle.mj_model.specs.Lexicon.{Row, row_of, rows_of}
 use Rattle.mj_model.specs.Tables.{Lexeme}
 use Rattle.image_writer.specs.Entries.{surface_at, no_row, lexemes_of}
-use Rattle.image_writer.specs.Groups.{AreGroups, BeginsGroup, MapsGroups, AreGrouped, most_cells_of}
+use Rattle.image_writer.specs.Groups.{AreGroups, StartsGroup, MapsGroups, AreGrouped, most_cells_of}
 use Rattle.image_writer.specs.declared.groups.Groups.{Groups}
 use Rattle.image_writer.proofs.FeatureLemmas.{sum_once_more, sum_once_rises}
 use Rattle.image_writer.proofs.GroupLemmas.{group_begun, group_goes_on, map_begun, map_goes_on, new_surface, no_groups, no_map, same_or_not}
@@ -29,7 +30,7 @@ pub surface_is : (records : List Record) (i : ℕ) (x : Record) → i < length r
 surface_is records i x less = ap (λ (row : Row). row.surface) (get_or-map row_of records i x no_row less)
 
 pub begins_by_test : (records : List Record) (i : ℕ) (x y : Record) (r : Bool) → i < length records → i ≢ 0 → r ≡ not (bytes_eq (cow_str_bytes (get_or records i x).surface) (cow_str_bytes (get_or records (i - 1) y).surface))
-    → (r ≡ true → BeginsGroup (rows_of records) i) × (BeginsGroup (rows_of records) i → r ≡ true)
+    → (r ≡ true → StartsGroup (rows_of records) i) × (StartsGroup (rows_of records) i → r ≡ true)
 begins_by_test records i x y r less some test =
     let this : List ℕ = cow_str_bytes (get_or records i x).surface in
     let before : List ℕ = cow_str_bytes (get_or records (i - 1) y).surface in
@@ -42,8 +43,8 @@ begins_by_test records i x y r less some test =
       ])),
     )
 
--- an entry that begins no group follows one of its surface
-pub goes_on : (rows : List Row) (i : ℕ) → (BeginsGroup rows i → ⊥) → (0 < i) × (surface_at rows i ≡ surface_at rows (i - 1))
+-- an entry that starts no group follows one with its surface
+pub goes_on : (rows : List Row) (i : ℕ) → (StartsGroup rows i → ⊥) → (0 < i) × (surface_at rows i ≡ surface_at rows (i - 1))
 goes_on rows i none = (above, same (same_or_not (surface_at rows i) (surface_at rows (i - 1)))) where
   above : 0 < i
   above = elim (cases_lt 0 i) [ inl less ↦ less | inr low ↦ absurd (none (inl (omega (arith, low)))) ]
@@ -65,7 +66,7 @@ most_rises rows i less =
     let e = ap (λ (texts : List (List ℕ)). sum_by (λ surface. length surface + 600) (each_once texts)) (surfaces_more rows i less) in
     omega (arith, rises, e)
 
-pub most_begun : (rows : List Row) → IsSortedByKey surface_of (slice_cmp nat_cmp) rows → (i : ℕ) → i < length rows → BeginsGroup rows i
+pub most_begun : (rows : List Row) → IsSortedByKey surface_of (slice_cmp nat_cmp) rows → (i : ℕ) → i < length rows → StartsGroup rows i
     → most_cells_of rows (i + 1) ≡ most_cells_of rows i + (length (surface_at rows i) + 600)
 most_begun rows sorted i less begins =
     let before : List (List ℕ) = take i (map surface_of rows) in
@@ -98,7 +99,7 @@ most_of_all rows i =
 
 -- ---- one entry more
 
-pub grouped_begun : (rows : List Row) → IsSortedByKey surface_of (slice_cmp nat_cmp) rows → (i : ℕ) (old new : Groups) (surface : List ℕ) → i < length rows → AreGrouped rows i old → BeginsGroup rows i
+pub grouped_begun : (rows : List Row) → IsSortedByKey surface_of (slice_cmp nat_cmp) rows → (i : ℕ) (old new : Groups) (surface : List ℕ) → i < length rows → AreGrouped rows i old → StartsGroup rows i
     → surface ≡ surface_at rows i → IsMapWith old.array new.array surface (length old.starts.items) → new.starts.items ≡ old.starts.items ++ i ∷ [] → length new.array ≤ length old.array + length surface + 600
     → AreGrouped rows (i + 1) new
 grouped_begun rows sorted i old new surface less grouped begins is with starts growth =
@@ -109,7 +110,7 @@ grouped_begun rows sorted i old new surface less grouped begins is with starts g
       most = let m = grouped.most in let e = most_begun rows sorted i less begins in let l = ap length is in omega (arith, m, e, growth, l);
     }
 
-pub grouped_on : (rows : List Row) (i : ℕ) (groups : Groups) → i < length rows → AreGrouped rows i groups → (BeginsGroup rows i → ⊥) → AreGrouped rows (i + 1) groups
+pub grouped_on : (rows : List Row) (i : ℕ) (groups : Groups) → i < length rows → AreGrouped rows i groups → (StartsGroup rows i → ⊥) → AreGrouped rows (i + 1) groups
 grouped_on rows i groups less grouped none =
     let on = goes_on rows i none in
     record {
@@ -118,7 +119,7 @@ grouped_on rows i groups less grouped none =
       most = let m = grouped.most in let e = most_rises rows i less in omega (arith, m, e);
     }
 
-pub grouped_full : (rows : List Row) → IsSortedByKey surface_of (slice_cmp nat_cmp) rows → (i : ℕ) (groups : Groups) (surface : List ℕ) → i < length rows → AreGrouped rows i groups → BeginsGroup rows i
+pub grouped_full : (rows : List Row) → IsSortedByKey surface_of (slice_cmp nat_cmp) rows → (i : ℕ) (groups : Groups) (surface : List ℕ) → i < length rows → AreGrouped rows i groups → StartsGroup rows i
     → surface ≡ surface_at rows i → cells_max < length groups.array + length surface + 600 → cells_max < most_cells (lexemes_of rows)
 grouped_full rows sorted i groups surface less grouped begins is full =
     let m = grouped.most in

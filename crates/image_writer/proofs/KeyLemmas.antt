@@ -5,15 +5,15 @@ use Rattle.std.proofs.lemmas.Bool.{cases_lt}
 use Rattle.std.proofs.lemmas.List.{get_or_past}
 use Rattle.std.proofs.lemmas.Option.{same_Some}
 use Rattle.mj_model.specs.declared.entry.Record.{Record}
-use Rattle.cell_walk.specs.CellMap.{Cell, free_cell, base, check, walk, codes_of, value_of}
-use Rattle.cell_walk.specs.CellRules.{AreCells, AreOnKeys, IsBaseAfter, MeetsRules}
-use Rattle.image_bytes.specs.ImageBounds.{cells_max}
-use Rattle.image_bytes.specs.ImageFaults.{HasKey}
-use Rattle.image_bytes.specs.ImageSections.{IsKeyOf, StandsOnce, index_at, key_of, stored_cells}
+use Rattle.mj_model.specs.CellMap.{Cell, free_cell, base, check, walk, codes_of, value_of}
+use Rattle.mj_model.specs.CellRules.{AreCells, AreOnKeys, IsBaseAfter, MeetsRules}
+use Rattle.image_format.specs.ImageBounds.{cells_max}
+use Rattle.image_format.specs.ImageFaults.{HasKey}
+use Rattle.image_format.specs.ImageSections.{IsKeyOf, OccursOnce, index_at, key_of, stored_cells}
 use Rattle.mj_model.specs.declared.matrix_sizes.MatrixSizes.{MatrixSizes}
 use Rattle.mj_model.specs.Lexicon.{Row, rows_of}
 use Rattle.lex_source.specs.Lexicons.{IsLexiconRow}
-use Rattle.cell_walk.proofs.CellWalks.{child_of, step_named, walk_append, walk_first, value_parts}
+use Rattle.mj_model.proofs.CellWalks.{child_of, step_named, walk_append, walk_first, value_parts}
 use Rattle.image_writer.specs.declared.groups.Groups.{Groups}
 use Rattle.image_writer.specs.declared.keys.KeyBytes.{KeyBytes}
 use Rattle.image_writer.specs.Entries.{no_row, surface_at}
@@ -21,7 +21,7 @@ use Rattle.image_writer.specs.Groups.{AreGroups, AreGrouped, MapsGroups}
 use Rattle.image_writer.specs.Sections.{AreKeyBytes}
 use Rattle.image_writer.proofs.GroupLemmas.{starts_below}
 use Rattle.image_writer.proofs.GroupingLemmas.{most_of_all}
-use Rattle.image_bytes.proofs.ImageKeys.{key_is}
+use Rattle.image_format.proofs.ImageKeys.{key_is}
 
 -- ---- value cells
 
@@ -100,7 +100,7 @@ module _ (rows : List Row) (seen : ℕ) (starts : List ℕ) (cells : List Cell) 
     | inr u ↦ (u.state, u.named)
   ]
 
-  pub stands_once : (g : ℕ) → g < length starts → StandsOnce cells g
+  pub stands_once : (g : ℕ) → g < length starts → OccursOnce cells g
   stands_once g less =
       let key : List ℕ = surface_at rows (get_or starts g seen) in
       let p = value_parts cells key g (maps.there g less) in
@@ -151,7 +151,7 @@ key_bytes sizes rows each texts groups bytes grouped same fill most formed keys 
           some = omega (arith, fill, some);
           few = omega (arith, fill, most);
           rules = subst (λ (n : ℕ). MeetsRules n (stored_cells bytes.cells.items)) (sym count) (subst (MeetsRules (length starts)) (sym same) rules);
-          once = λ g less. subst (λ (cs : List Cell). StandsOnce cs g) (sym same) (once g (below g less));
+          once = λ g less. subst (λ (cs : List Cell). OccursOnce cs g) (sym same) (once g (below g less));
         };
         keys = λ g less. subst (λ (cs : List Cell). HasKey cs g) (sym same) (surface_at rows (get_or starts g n), key g (below g less));
       };

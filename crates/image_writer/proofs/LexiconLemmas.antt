@@ -1,16 +1,16 @@
--- The entries of all groups, one group behind another, are those of the lexicon.
+-- The entries of all groups, one group after another, are those of the lexicon.
 use Rattle.std.proofs.Common.{◌≡◌, ℕ, zero, suc, ◌+◌, ◌-◌, ◌<◌, ◌≤◌, List, [], ◌∷◌, ◌++◌, length, map, take, drop, get_or, Some, sym, ap, ◌∙◌, refl, arith, append_assoc}
 use Rattle.std.specs.Prelude.{flat_map, slice_get}
 use Rattle.std.specs.List.{range_with_len}
 use Rattle.std.proofs.lemmas.List.{flat_map_more, get_or_append_left, length-append, map-append, take_all, take_more, take-append-drop}
 use Rattle.std.proofs.lemmas.List.Concat.{flat_map-append}
 use Rattle.std.proofs.lemmas.Option.{get_or_from_slice_get, slice_get-get_or}
-use Rattle.image_bytes.specs.ImageBounds.{feature_bytes, feature_bytes_end}
+use Rattle.image_format.specs.ImageBounds.{feature_bytes, feature_bytes_end}
 use Rattle.mj_model.specs.Dictionary.{lexeme_of}
-use Rattle.image_bytes.specs.ImageMeaning.{LexiconSections, entries_of_group, entry_under, key_in, lexicon_in}
-use Rattle.image_bytes.specs.declared.layout.KeyForm.{KeyForm}
-use Rattle.image_bytes.specs.declared.layout.KeyForm.TheVariants.{Cells}
-use Rattle.image_bytes.specs.ImageSections.{IsIndex, index_at, token_from}
+use Rattle.image_format.specs.ImageMeaning.{LexiconSections, entries_of_group, entry_under, key_in, lexicon_in}
+use Rattle.image_format.specs.declared.layout.KeyForm.{KeyForm}
+use Rattle.image_format.specs.declared.layout.KeyForm.TheVariants.{Cells}
+use Rattle.image_format.specs.ImageSections.{IsIndex, index_at, token_from}
 use Rattle.mj_model.specs.Lexicon.{Row}
 use Rattle.mj_model.specs.Tables.{Lexeme}
 use Rattle.image_writer.specs.declared.tokens.TokenWriter.{TokenWriter}
@@ -44,7 +44,7 @@ under_key key tokens features f a (suc n) each =
     cc
 
 module _ (s : LexiconSections) (rows more : List Row) (groups : ℕ) (cells : s.form ≡ Cells) (hold : HoldTokens (rows ++ more) s.tokens s.features) (index : IsIndex groups 0 (length rows) s.groups) (under : AreUnderKeys rows groups s.keys s.groups) where
-  -- the starts don't fall
+  -- the starts do not decrease
   no_fall : (n g : ℕ) → g + n ≤ groups → index_at s.groups g ≤ index_at s.groups (g + n)
   no_fall zero g le = ap-le (index_at s.groups) g (g + 0) (omega arith)
     where
@@ -131,12 +131,12 @@ category_more rows unknown i lines less at =
 pub categories_all : (rows : List Row) (unknown : List (List Row)) (i : ℕ) → length unknown ≤ i → all_rows rows (take i unknown) ≡ all_rows rows unknown
 categories_all rows unknown i past = ap (all_rows rows) (take_all i unknown past)
 
--- the entries up to a category, those of the category, and the rest
+-- the entries up to a category, those of the category, and the remainder
 pub categories_around : (rows : List Row) (unknown : List (List Row)) (i : ℕ) (lines : List Row) → i < length unknown → lines ≡ get_or unknown i []
     → all_rows rows unknown ≡ (all_rows rows (take i unknown) ++ lines) ++ flat_map (λ rs. rs) (drop (i + 1) unknown)
 categories_around rows unknown i lines less at =
     let front = flat_map (λ (rs : List Row). rs) (take (i + 1) unknown) in
-    let behind = flat_map (λ (rs : List Row). rs) (drop (i + 1) unknown) in
+    let following = flat_map (λ (rs : List Row). rs) (drop (i + 1) unknown) in
     ap (λ (rs : List Row). rows ++ rs) (ap (flat_map (λ (rs : List Row). rs)) (sym (take-append-drop (i + 1) unknown)) ∙ flat_map-append (λ (rs : List Row). rs) (take (i + 1) unknown) (drop (i + 1) unknown))
-    ∙ sym (append_assoc rows front behind)
-    ∙ ap (λ (rs : List Row). rs ++ behind) (sym (category_more rows unknown i lines less at))
+    ∙ sym (append_assoc rows front following)
+    ∙ ap (λ (rs : List Row). rs ++ following) (sym (category_more rows unknown i lines less at))

@@ -19,4 +19,4 @@ pub mod SystemLemmas
 pub mod WholeLemmas
 pub mod UserLemmas
 pub mod FirstUseLemmas
-pub mod RefusalLemmas
+pub mod ErrorLemmas

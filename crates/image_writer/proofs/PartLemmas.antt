@@ -1,16 +1,16 @@
--- An image is well formed where its parts are, whatever its kind.
+-- An image is well formed if its parts are, for either kind.
 use Rattle.std.proofs.Common.{◌≡◌, ℕ, ◌+◌, ◌*◌, ◌<◌, ◌≤◌, List, [], length, ap, ◌∙◌, arith}
 use Rattle.std.specs.Prelude.{map, slice_index_or, sum_by}
 use Rattle.std.proofs.lemmas.Option.{slice_get-get_or}
 use Rattle.mj_model.specs.declared.limits.TheConstants.{ENTRIES_MAX}
 use Rattle.mj_model.specs.declared.matrix_sizes.MatrixSizes.{MatrixSizes}
-use Rattle.image_bytes.specs.declared.header.Header.{Header}
-use Rattle.image_bytes.specs.declared.kind.DictKind.{DictKind}
-use Rattle.image_bytes.specs.DictKinds.{IsKind}
-use Rattle.image_bytes.specs.declared.layout.TheConstants.{LAYOUT}
-use Rattle.image_bytes.specs.ImageBytes.{kind_of}
-use Rattle.image_bytes.specs.ImageFaults.{AreCounts, IsHeader, IsIntact, PassAll, SystemAlone}
-use Rattle.image_bytes.specs.ImageSections.{AreCategories, AreCosts, AreRanges, FitsSizes, IsIndex, stored_token}
+use Rattle.image_format.specs.declared.header.Header.{Header}
+use Rattle.image_format.specs.declared.kind.DictKind.{DictKind}
+use Rattle.image_format.specs.DictKinds.{IsKind}
+use Rattle.image_format.specs.declared.layout.TheConstants.{LAYOUT}
+use Rattle.image_format.specs.ImageBytes.{kind_of}
+use Rattle.image_format.specs.ImageFaults.{AreCounts, IsHeader, IsIntact, PassAll, SystemAlone}
+use Rattle.image_format.specs.ImageSections.{AreCategories, AreCosts, AreRanges, FitsSizes, IsIndex, stored_token}
 use Rattle.mj_model.specs.Lexicon.{Row}
 use Rattle.mj_model.specs.Tables.{Kind, Token}
 use Rattle.image_writer.specs.Frames.{IsFramed, sections_with}

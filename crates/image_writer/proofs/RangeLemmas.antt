@@ -9,27 +9,27 @@ use Rattle.byteorder.specs.Endian.{little_bytes, little_number}
 use Rattle.byteorder.specs.Numbers.{length-bytes_low_first}
 use Rattle.mj_model.specs.declared.category.CharInfo.{CharInfo}
 use Rattle.mj_model.specs.CharDef.{IsInfoOf, code_point_max}
-use Rattle.char_def.specs.declared.info_range.InfoRange.{InfoRange}
+use Rattle.char_def.specs.declared.info_range.CategoryRange.{CategoryRange}
 use Rattle.char_def.specs.Categories.{CharCategories, IsCategoryTable}
 use Rattle.char_def.specs.InfoRanges.{AreRangesOf, no_range, range_by}
-use Rattle.image_bytes.specs.ImageBytes.{number_at}
-use Rattle.image_bytes.specs.ImageSections.{StoredRange, info_of_entry, no_info, range_at, stored_ranges}
-use Rattle.image_bytes.proofs.ItemLemmas.{item_at, items_length}
-use Rattle.image_bytes.proofs.NumberLemmas.{number_back}
+use Rattle.image_format.specs.ImageBytes.{number_at}
+use Rattle.image_format.specs.ImageSections.{StoredRange, info_of_entry, no_info, range_at, stored_ranges}
+use Rattle.image_format.proofs.ItemLemmas.{item_at, items_length}
+use Rattle.image_format.proofs.NumberLemmas.{number_back}
 use Rattle.image_writer.specs.Ranges.{entry_of, range_bytes}
 use Rattle.image_writer.specs.StoredTables.{HoldRangesOf}
 
 -- a range as it is stored
-abbrev stored : InfoRange → StoredRange
+abbrev stored : CategoryRange → StoredRange
 stored range = record { first = range.first; info = range.info }
 
 -- its numbers fit the bits that they have
-record FitsBits (range : InfoRange) : Type 0 where
+record FitsBits (range : CategoryRange) : Type 0 where
   first : range.first < 2 ^ 32
   bits : range.info.bits < 2 ^ 18
   head : range.info.head < 2 ^ 8
 
-eight_bytes : (range : InfoRange) → length (range_bytes range) ≡ 8
+eight_bytes : (range : CategoryRange) → length (range_bytes range) ≡ 8
 eight_bytes range =
     let a = length-bytes_low_first 0 4 range.first in
     let b = length-bytes_low_first 0 4 (entry_of range.info) in
@@ -43,7 +43,7 @@ entry_back info few =
 
 -- ---- the categories of a code point
 
-reversed_stored : (ranges : List InfoRange) → reverse (map stored ranges) ≡ map stored (reverse ranges)
+reversed_stored : (ranges : List CategoryRange) → reverse (map stored ranges) ≡ map stored (reverse ranges)
 reversed_stored [] = refl
 reversed_stored (r ∷ ranges) =
     reverse-append (stored r ∷ []) (map stored ranges)
@@ -51,23 +51,23 @@ reversed_stored (r ∷ ranges) =
     ∙ sym (map-append stored (reverse ranges) (r ∷ []))
     ∙ ap (map stored) (sym (reverse-append (r ∷ []) ranges))
 
-found_stored : (code : ℕ) (ranges : List InfoRange)
+found_stored : (code : ℕ) (ranges : List CategoryRange)
     → option_map_or (λ (r : StoredRange). r.info) (find (λ (r : StoredRange). nat_le r.first code) (map stored ranges)) no_info
-    ≡ option_map_or (λ (r : InfoRange). r.info) (find (λ (r : InfoRange). nat_le r.first code) ranges) no_range.info
+    ≡ option_map_or (λ (r : CategoryRange). r.info) (find (λ (r : CategoryRange). nat_le r.first code) ranges) no_range.info
 found_stored code [] = refl
 found_stored code (r ∷ ranges) = by (nat_le r.first code) refl (found_stored code ranges)
   where
     by : (b : Bool) → nat_le r.first code ≡ b
         → option_map_or (λ (r : StoredRange). r.info) (find (λ (r : StoredRange). nat_le r.first code) (map stored ranges)) no_info
-        ≡ option_map_or (λ (r : InfoRange). r.info) (find (λ (r : InfoRange). nat_le r.first code) ranges) no_range.info
+        ≡ option_map_or (λ (r : CategoryRange). r.info) (find (λ (r : CategoryRange). nat_le r.first code) ranges) no_range.info
         → option_map_or (λ (r : StoredRange). r.info) (find (λ (r : StoredRange). nat_le r.first code) (map stored (r ∷ ranges))) no_info
-        ≡ option_map_or (λ (r : InfoRange). r.info) (find (λ (r : InfoRange). nat_le r.first code) (r ∷ ranges)) no_range.info
+        ≡ option_map_or (λ (r : CategoryRange). r.info) (find (λ (r : CategoryRange). nat_le r.first code) (r ∷ ranges)) no_range.info
     by true is rest = rw is refl
     by false is rest = rw is rest
 
 -- ---- all ranges
 
-module _ (t : CharCategories) (ranges : List InfoRange) (formed : IsCategoryTable t) (are : AreRangesOf t ranges) where
+module _ (t : CharCategories) (ranges : List CategoryRange) (formed : IsCategoryTable t) (are : AreRangesOf t ranges) where
   info_is : (i : ℕ) → i < length ranges → IsInfoOf (length t.categories) (range_by ranges i).info
   info_is i less = subst (IsInfoOf (length t.categories)) (sym (are.starts i less)) (formed.infos (range_by ranges i).first)
 
@@ -94,12 +94,12 @@ module _ (t : CharCategories) (ranges : List InfoRange) (formed : IsCategoryTabl
         let entry = entry_of range.info in
         let rest : List ℕ = little_bytes 4 entry ++ flat_map range_bytes (drop (suc i) ranges) in
         let fit = fits i less in
-        let behind : drop (8 * i) bytes ≡ little_bytes 4 range.first ++ rest =
+        let following : drop (8 * i) bytes ≡ little_bytes 4 range.first ++ rest =
         ap (drop (8 * i)) is ∙ item_at range_bytes 8 eight_bytes ranges i no_range less
         ∙ append_assoc (little_bytes 4 range.first) (little_bytes 4 entry) (flat_map range_bytes (drop (suc i) ranges)) in
-        let first : number_at 4 bytes (8 * i) ≡ range.first = ap (little_number 4) behind ∙ number_back 4 range.first rest fit.first in
+        let first : number_at 4 bytes (8 * i) ≡ range.first = ap (little_number 4) following ∙ number_back 4 range.first rest fit.first in
         let second : number_at 4 bytes (8 * i + 4) ≡ entry =
-        ap (little_number 4) (sym (drop-drop 4 (8 * i) bytes) ∙ ap (drop 4) behind ∙ drop_at (little_bytes 4 range.first) rest 4 (length-bytes_low_first 0 4 range.first))
+        ap (little_number 4) (sym (drop-drop 4 (8 * i) bytes) ∙ ap (drop 4) following ∙ drop_at (little_bytes 4 range.first) rest 4 (length-bytes_low_first 0 4 range.first))
         ∙ number_back 4 entry (flat_map range_bytes (drop (suc i) ranges)) (let bits = fit.bits in let head = fit.head in omega (arith, bits, head)) in
         λ j. record { first = first j; info = (ap info_of_entry second ∙ entry_back range.info fit.bits) j }
 
@@ -117,7 +117,7 @@ module _ (t : CharCategories) (ranges : List InfoRange) (formed : IsCategoryTabl
         get_or-map-range_with_len (range_at bytes) 0 (length bytes / 8) i i (stored no_range) (omega (arith, low, n)) (omega (arith))
         ∙ range_back i low ∙ sym (get_or-map stored ranges i no_range (stored no_range) low))
 
-    -- what holds of each range holds of it as it is stored
+    -- a fact about each range holds for the stored ranges
     each : (P : StoredRange → Type 0) → ((i : ℕ) → i < length ranges → P (stored (range_by ranges i))) → (i : ℕ) → i < length bytes / 8 → P (range_at bytes i)
     each P holds i less = let n = count in let low : i < length ranges = omega (arith, n, less) in subst P (sym (range_back i low)) (holds i low)
 

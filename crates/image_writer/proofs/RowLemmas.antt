@@ -19,18 +19,18 @@ use Rattle.image_writer.specs.Entries.{all_rows}
 abbrev pub joined : List (List Row) → List Row
 joined unknown = flat_map (λ (rows : List Row). rows) unknown
 
--- a row behind others
+-- a row after others
 pub get_behind : (front rows : List Row) (k : ℕ) → slice_get (front ++ rows) (length front + k) ≡ slice_get rows k
 get_behind [] rows k = let e : 0 + k ≡ k = omega (arith) in ap (slice_get rows) e
 get_behind (row ∷ front) rows k = let e : suc (length front) + k ≡ suc (length front + k) = omega (arith) in ap (slice_get (row ∷ (front ++ rows))) e ∙ get_behind front rows k
 
--- a row that others stand behind
+-- a row before others
 pub get_before : (rows back : List Row) (k : ℕ) → k < length rows → slice_get (rows ++ back) k ≡ slice_get rows k
 get_before [] back k less = absurd (omega (arith, less))
 get_before (row ∷ rows) back zero less = refl
 get_before (row ∷ rows) back (suc k) less = get_before rows back k (omega (arith, less))
 
--- a row of a list by its place in all lists
+-- a row of a list, by its position in all lists
 pub get_joined : (unknown : List (List Row)) (i k : ℕ) → k < length (slice_index_or unknown i [])
     → slice_get (joined unknown) (sum_by length (take i unknown) + k) ≡ slice_get (slice_index_or unknown i []) k
 get_joined [] i k less = absurd (omega (arith, less))
@@ -54,7 +54,7 @@ tokens_at first (rows ∷ unknown) (suc i) =
     let e : first + length rows + sum_by length (take i unknown) ≡ first + sum_by length (take (suc i) (rows ∷ unknown)) = omega (arith, s) in
     tokens_at (first + length rows) unknown i ∙ ap (λ n. map token_of (enumerate_from n (slice_index_or unknown i []))) e
 
--- what is said of each row by its number, one by one
+-- a fact about each row by its number, one by one
 pub numbered : {X : Type 0} (f : ℕ → X) (g : (ℕ × Row) → X) (first : ℕ) (rows : List Row) → ((k : ℕ) (row : Row) → slice_get rows k ≡ Some row → f (first + k) ≡ g (first + k, row))
     → map f (range_with_len first (length rows)) ≡ map g (enumerate_from first rows)
 numbered f g first [] is = refl

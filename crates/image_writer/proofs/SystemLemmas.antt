@@ -6,8 +6,8 @@ use Rattle.std.proofs.lemmas.Bool.{ltb-true, ltb-false}
 use Rattle.std.proofs.lemmas.List.Sums.{sum_by_more}
 use Rattle.std.proofs.lemmas.Option.{slice_get_within}
 use Rattle.mj_model.specs.Connection.{is_pair}
-use Rattle.image_bytes.specs.ImageMeaning.{tokens_in}
-use Rattle.image_bytes.specs.ImageSections.{index_at, stored_cost, token_from}
+use Rattle.image_format.specs.ImageMeaning.{tokens_in}
+use Rattle.image_format.specs.ImageSections.{index_at, stored_cost, token_from}
 use Rattle.mj_model.specs.Lexicon.{Row}
 use Rattle.mj_model.specs.UnkDef.{token_of, unknown_tokens}
 use Rattle.matrix_def.specs.Costs.{CostTable, matrix_cost}
@@ -43,7 +43,7 @@ unknown_at rows unknown index tokens features are hold i less =
     (hold.each (first + k) row there).token)
     ∙ sym (tokens_at (length rows) unknown i)
 
--- past the categories there are none
+-- there are none after the last category
 no_unknown : (first : ℕ) (unknown : List (List Row)) (i : ℕ) → length unknown ≤ i → [] ≡ unknown_tokens first unknown i
 no_unknown first [] i past = refl
 no_unknown first (rows ∷ unknown) zero past = absurd (omega (arith, past))

@@ -1,4 +1,4 @@
--- A token that is written behind others is read back, and the others stay.
+-- A token that is appended to others is read back, and the others do not change.
 use Rattle.std.proofs.Common.{◌≡◌, ℕ, ◌+◌, ◌*◌, ◌<◌, ◌≤◌, List, [], ◌∷◌, ◌++◌, length, Some, ◌⊎◌, inl, inr, sym, ap, ◌∙◌, refl, arith, subst}
 use Rattle.std.specs.Prelude.{slice_get, IsUtf8}
 use Rattle.std.specs.Int.{w16, cast_signed, cast_unsigned}
@@ -8,17 +8,17 @@ use Rattle.std.proofs.Math.Facts.{Fits-of_z}
 use Rattle.std.proofs.lemmas.List.{length_push, length-append, get_or_append_left, get_or_push}
 use Rattle.std.proofs.lemmas.Option.{get_or_from_slice_get, slice_get-get_or, slice_get_past, none-some}
 use Rattle.byteorder.specs.Endian.{little_bytes}
-use Rattle.image_bytes.specs.ImageBytes.{number_at, signed_2_at}
-use Rattle.image_bytes.specs.ImageSections.{StoredToken, stored_token, HasFeature, stored_feature, feature_end}
+use Rattle.image_format.specs.ImageBytes.{number_at, signed_2_at}
+use Rattle.image_format.specs.ImageSections.{StoredToken, stored_token, HasFeature, stored_feature, feature_end}
 use Rattle.mj_model.specs.Lexicon.{Row}
 use Rattle.mj_model.specs.Tables.{Token}
-use Rattle.image_writer.specs.Sections.{IsTokenOf, HoldTokens, StandsAt}
+use Rattle.image_writer.specs.Sections.{IsTokenOf, HoldTokens, HasTextAt}
 use Rattle.image_writer.specs.TokenBytes.{FitsBytes, stored_bytes}
-use Rattle.image_bytes.proofs.NumberLemmas.{number_kept, number_behind, number_back, range_kept}
+use Rattle.image_format.proofs.NumberLemmas.{number_kept, number_behind, number_back, range_kept}
 
 -- ---- one token
 
--- the token at the front of its bytes
+-- the token at the start of its bytes
 token_back : (t : StoredToken) → FitsBytes t → stored_token (stored_bytes t) 0 ≡ t
 token_back t fits =
     let two = little_bytes 2 t.left in
@@ -35,7 +35,7 @@ token_back t fits =
     let long : number_at 4 (stored_bytes t) 12 ≡ t.feature_length = number_back 4 t.feature_length [] fits.long in
     (λ j. record { left = left j; right = right j; cost = cost j; spare = spare j; feature_start = place j; feature_length = long j })
 
--- tokens stay, whatever is written behind them
+-- tokens do not change when bytes are appended
 token_kept : (tokens more : List ℕ) (i : ℕ) → 16 * i + 16 ≤ length tokens → stored_token (tokens ++ more) i ≡ stored_token tokens i
 token_kept tokens more i within =
     let left = number_kept 2 (16 * i) tokens more (omega (arith, within)) in
@@ -46,7 +46,7 @@ token_kept tokens more i within =
     let long = number_kept 4 (16 * i + 12) tokens more (omega (arith, within)) in
     (λ j. record { left = left j; right = right j; cost = cost j; spare = spare j; feature_start = place j; feature_length = long j })
 
--- a token behind others is the first one of its bytes
+-- a token after others is the first one of its bytes
 token_behind : (tokens more : List ℕ) (i : ℕ) → length tokens ≡ 16 * i → stored_token (tokens ++ more) i ≡ stored_token more 0
 token_behind tokens more i fill =
     let left = number_behind 2 0 tokens more (16 * i) (omega (arith, fill)) in
@@ -63,7 +63,7 @@ token_behind tokens more i fill =
 abbrev with_number : ℕ → StoredToken → List ℕ → Token
 with_number i t feature = record { number = i; left = t.left; right = t.right; cost = t.cost; feature = feature }
 
--- a token of a row stays one
+-- the token of a row does not change
 still_token : (row : Row) (tokens features more_tokens more_features : List ℕ) (i : ℕ) → 16 * i + 16 ≤ length tokens → IsTokenOf row tokens features i
     → IsTokenOf row (tokens ++ more_tokens) (features ++ more_features) i
 still_token row tokens features more_tokens more_features i within is =
@@ -84,15 +84,15 @@ still_token row tokens features more_tokens more_features i within is =
 abbrev pub stored_of : Row → ℕ → StoredToken
 stored_of row place = record { left = row.left; right = row.right; cost = row.cost; spare = 0; feature_start = place; feature_length = length row.feature }
 
-new_token : (row : Row) (tokens features : List ℕ) (i place : ℕ) → length tokens ≡ 16 * i → FitsBytes (stored_of row place) → StandsAt features row.feature place → IsUtf8 row.feature
+new_token : (row : Row) (tokens features : List ℕ) (i place : ℕ) → length tokens ≡ 16 * i → FitsBytes (stored_of row place) → HasTextAt features row.feature place → IsUtf8 row.feature
     → IsTokenOf row (tokens ++ stored_bytes (stored_of row place)) features i
-new_token row tokens features i place fill fits stands text =
+new_token row tokens features i place fill fits is_stored text =
     let t : StoredToken = stored_of row place in
     let same : stored_token (tokens ++ stored_bytes t) i ≡ t = token_behind tokens (stored_bytes t) i fill ∙ token_back t fits in
     record {
-      token = ap (λ (u : StoredToken). with_number i u (stored_feature features u)) same ∙ ap (with_number i t) stands.is;
+      token = ap (λ (u : StoredToken). with_number i u (stored_feature features u)) same ∙ ap (with_number i t) is_stored.is;
       spare = ap (λ (u : StoredToken). u.spare) same;
-      feature = subst (HasFeature features) (sym same) (record { within = stands.within; is_text = subst IsUtf8 (sym stands.is) text });
+      feature = subst (HasFeature features) (sym same) (record { within = is_stored.within; is_text = subst IsUtf8 (sym is_stored.is) text });
     }
 
 -- an element of a list with one more
@@ -108,9 +108,9 @@ in_pushed xs x i y h = elim (cases_lt i (length xs)) [
 
 -- a row more
 pub hold_more : (rows : List Row) (row : Row) (tokens features more : List ℕ) (place : ℕ) → HoldTokens rows tokens features → FitsBytes (stored_of row place)
-    → StandsAt (features ++ more) row.feature place → IsUtf8 row.feature
+    → HasTextAt (features ++ more) row.feature place → IsUtf8 row.feature
     → HoldTokens (rows ++ row ∷ []) (tokens ++ stored_bytes (stored_of row place)) (features ++ more)
-hold_more rows row tokens features more place hold fits stands text =
+hold_more rows row tokens features more place hold fits is_stored text =
     let bytes : List ℕ = stored_bytes (stored_of row place) in
     record {
       fill = length-append tokens bytes ∙ (let f = hold.fill in let n = length_push rows row in let b : length bytes ≡ 16 = refl in omega (arith, f, n, b));
@@ -118,6 +118,6 @@ hold_more rows row tokens features more place hold fits stands text =
         | inl old ↦ still_token r tokens features bytes more i (let f = hold.fill in let less = old.0 in omega (arith, f, less)) (hold.each i r old.1)
         | inr new ↦
             subst (λ (x : Row). IsTokenOf x (tokens ++ bytes) (features ++ more) i) new.1
-            (new_token row tokens (features ++ more) i place (hold.fill ∙ ap (λ (n : ℕ). 16 * n) (sym new.0)) fits stands text)
+            (new_token row tokens (features ++ more) i place (hold.fill ∙ ap (λ (n : ℕ). 16 * n) (sym new.0)) fits is_stored text)
       ];
     }

@@ -1,14 +1,14 @@
 -- A whole image of a user dictionary.
 use Rattle.std.proofs.Common.{◌≡◌, ℕ, ◌<◌, List, [], append-nil, refl, sym, ap, ◌∙◌, subst, arith}
-use Rattle.image_bytes.specs.ImageBounds.{feature_bytes, feature_bytes_end}
+use Rattle.image_format.specs.ImageBounds.{feature_bytes, feature_bytes_end}
 use Rattle.mj_model.specs.declared.matrix_sizes.MatrixSizes.{MatrixSizes}
-use Rattle.image_bytes.specs.ImageBytes.{kind_of}
-use Rattle.image_bytes.specs.ImageMeaning.{lexicon_in}
-use Rattle.image_bytes.specs.Layouts.{key_form}
+use Rattle.image_format.specs.ImageBytes.{kind_of}
+use Rattle.image_format.specs.ImageMeaning.{lexicon_in}
+use Rattle.image_format.specs.Layouts.{key_form}
 use Rattle.mj_model.specs.Lexicon.{Row}
 use Rattle.mj_model.specs.Tables.{User}
-use Rattle.image_bytes.specs.declared.header.Header.{Header}
-use Rattle.image_bytes.specs.declared.kind.DictKind.TheVariants as dict
+use Rattle.image_format.specs.declared.header.Header.{Header}
+use Rattle.image_format.specs.declared.kind.DictKind.TheVariants as dict
 use Rattle.image_writer.specs.Frames.{IsFramed, sections_with}
 use Rattle.image_writer.specs.declared.lexicon_bytes.LexiconBytes.{LexiconBytes}
 use Rattle.image_writer.specs.Entries.{all_rows, lexemes_of, tokens_of}
@@ -22,7 +22,7 @@ use Rattle.image_writer.proofs.FormedLemmas.{at, from_parts}
 use Rattle.image_writer.proofs.PartLemmas.{AreParts, header_with, intact}
 
 module _ (sizes : MatrixSizes) (rows : List Row) (bytes : LexiconBytes) where
-  -- what the parts say of a user dictionary
+  -- the parts of a user dictionary
   pub record AreUserParts : Type 0 where
     pub sizes_fit : AreMatrixSizes sizes
     pub entries : AreLexiconRows (record { sizes = sizes; rows = rows })

@@ -4,14 +4,14 @@ use Rattle.std.specs.Prelude.{pos, if◌then◌else◌, map, nat_lt, sum_by}
 use Rattle.mj_model.specs.declared.limits.TheConstants.{ENTRIES_MAX}
 use Rattle.mj_model.specs.CharDef.{NamedCategory}
 use Rattle.mj_model.specs.Connection.{is_pair}
-use Rattle.image_bytes.specs.declared.header.Header.{Header}
-use Rattle.image_bytes.specs.declared.kind.DictKind.TheVariants as dict
-use Rattle.image_bytes.specs.ImageBytes.{kind_of}
-use Rattle.image_bytes.specs.ImageMeaning.{info_in, lexicon_in, tokens_in}
-use Rattle.image_bytes.specs.Layouts.{info_form, key_form}
-use Rattle.image_bytes.specs.ImageSections.{IsIndex, categories_in, stored_cost}
+use Rattle.image_format.specs.declared.header.Header.{Header}
+use Rattle.image_format.specs.declared.kind.DictKind.TheVariants as dict
+use Rattle.image_format.specs.ImageBytes.{kind_of}
+use Rattle.image_format.specs.ImageMeaning.{info_in, lexicon_in, tokens_in}
+use Rattle.image_format.specs.Layouts.{info_form, key_form}
+use Rattle.image_format.specs.ImageSections.{IsIndex, categories_in, stored_cost}
 use Rattle.mj_model.specs.Lexicon.{Row}
-use Rattle.mj_model.specs.SourceTables.{SayTheSame}
+use Rattle.mj_model.specs.SourceTables.{HaveSameMeaning}
 use Rattle.mj_model.specs.Tables.{Tables}
 use Rattle.matrix_def.specs.Costs.{CostTable, IsMatrix}
 use Rattle.lex_source.specs.Lexicons.{AreLexiconRows}
@@ -42,7 +42,7 @@ tables_in h s = record {
 }
 
 module _ (m : CostTable) (chars : CharCategories) (unknown : List (List Row)) (rows : List Row) (costs categories ranges index : List ℕ) (bytes : LexiconBytes) where
-  -- what the parts say of a system dictionary
+  -- the parts of a system dictionary
   pub record AreSystemParts : Type 0 where
     pub matrix : IsMatrix m
     pub entries : AreLexiconRows (record { sizes = m.sizes; rows = rows })
@@ -78,7 +78,7 @@ module _ (m : CostTable) (chars : CharCategories) (unknown : List (List Row)) (r
       lexicon = parts.lexicon;
     }
 
-    same_tables : SayTheSame (tables_in header (eight_of (at sections))) (tables_with m chars unknown rows)
+    same_tables : HaveSameMeaning (tables_in header (eight_of (at sections))) (tables_with m chars unknown rows)
     same_tables = record {
       kind = refl;
       sizes = refl;
@@ -95,7 +95,7 @@ module _ (m : CostTable) (chars : CharCategories) (unknown : List (List Row)) (r
     system_image = record {
       intact = intact dict.System m.sizes (length chars.categories) rows unknown costs categories ranges index bytes are_parts image framed;
       layout = ap (λ (h : Header). h.layout) framed.header;
-      tables = from_parts header sections image framed (λ h ss. SayTheSame (tables_in h ss) (tables_with m chars unknown rows)) same_tables;
+      tables = from_parts header sections image framed (λ h ss. HaveSameMeaning (tables_in h ss) (tables_with m chars unknown rows)) same_tables;
       categories = from_parts header sections image framed (λ h ss. categories_in h.categories (at ss 1) ≡ chars.categories) parts.categories_are.categories;
       ranges = from_parts header sections image framed (λ h ss. AreChanging (at ss 2)) parts.ranges_are.changing;
       cells = from_parts header sections image framed (λ h ss. AreCellsFor (lexemes_of rows) (at ss 4)) parts.lexicon.cells;

@@ -5,12 +5,12 @@ use Rattle.std.specs.List.{list_any}
 use Rattle.std.proofs.lemmas.List.{get_or_at, get_or_default, length-append, map-append, map_more, take_all, take_at, take-append-drop}
 use Rattle.std.proofs.lemmas.Option.{slice_get-get_or}
 use Rattle.mj_model.specs.declared.entry.Record.{Record}
-use Rattle.image_bytes.specs.ImageBounds.{each_once, feature_bytes_end}
+use Rattle.image_format.specs.ImageBounds.{each_once, feature_bytes_end}
 use Rattle.mj_model.specs.Lexicon.{Row, row_of, rows_of}
 use Rattle.image_writer.specs.declared.feature_place.FeaturePlace.{FeaturePlace}
 use Rattle.image_writer.specs.declared.tokens.TokenWriter.{TokenWriter}
 use Rattle.image_writer.specs.FirstUses.{AreFirstUses, IsFirstUse}
-use Rattle.image_writer.specs.Sections.{AreWritten, HoldTokens, HoldsOneMore, HoldsTexts, IsNextUse, IsTooLarge, StandsAt, features_in, features_of}
+use Rattle.image_writer.specs.Sections.{AreWritten, HoldTokens, HoldsOneMore, HoldsTexts, IsNextUse, IsTooLarge, HasTextAt, features_in, features_of}
 use Rattle.image_writer.specs.TokenBytes.{FitsBytes, stored_bytes}
 use Rattle.image_writer.proofs.FeatureLemmas.{too_large, still_too_large}
 use Rattle.image_writer.proofs.FirstUseLemmas.{first_before, none_before}
@@ -48,7 +48,7 @@ token_written all rows row old new place written more fits text bytes firsts =
       tokens = subst (λ (tokens : List ℕ). HoldTokens (rows ++ row ∷ []) tokens (features_in new.features)) (sym bytes)
           (subst (HoldTokens (rows ++ row ∷ []) (old.tokens.items ++ stored_bytes (stored_of row place.start))) (sym more.kept)
           (hold_more rows row old.tokens.items (features_in old.features) more.more place.start written.tokens fits
-          (subst (λ (b : List ℕ). StandsAt b row.feature place.start) more.kept more.stands.stands) text));
+          (subst (λ (b : List ℕ). HasTextAt b row.feature place.start) more.kept more.is_stored.is_stored) text));
       features = subst (λ (texts : List (List ℕ)). HoldsTexts texts new.features) (sym (map-append (λ (r : Row). r.feature) rows (row ∷ []))) more.holds;
       firsts = subst (AreFirstUses (features_of all)) (sym firsts) written.firsts;
     }
@@ -69,16 +69,16 @@ records_more rows records i r less at =
 pub records_all : (rows : List Row) (records : List Record) (i : ℕ) → length records ≤ i → rows ++ rows_of (take i records) ≡ rows ++ rows_of records
 records_all rows records i past = ap (λ (rs : List Record). rows ++ rows_of rs) (take_all i records past)
 
--- the records up to one, that record, and the rest
+-- the records up to one, that record, and the remainder
 pub records_around : (rows : List Row) (records : List Record) (i : ℕ) (r : Record) (rest : List Row) → i < length records → r ≡ get_or records i r
     → (rows ++ rows_of records) ++ rest ≡ ((rows ++ rows_of (take i records)) ++ row_of r ∷ []) ++ (rows_of (drop (i + 1) records) ++ rest)
 records_around rows records i r rest less at =
     let front = rows_of (take (i + 1) records) in
-    let behind = rows_of (drop (i + 1) records) in
+    let following = rows_of (drop (i + 1) records) in
     ap (λ (rs : List Row). (rows ++ rs) ++ rest) (ap rows_of (sym (take-append-drop (i + 1) records)) ∙ map-append row_of (take (i + 1) records) (drop (i + 1) records))
-    ∙ ap (λ (rs : List Row). rs ++ rest) (sym (append_assoc rows front behind))
-    ∙ append_assoc (rows ++ front) behind rest
-    ∙ ap (λ (rs : List Row). rs ++ (behind ++ rest)) (sym (records_more rows records i r less at))
+    ∙ ap (λ (rs : List Row). rs ++ rest) (sym (append_assoc rows front following))
+    ∙ append_assoc (rows ++ front) following rest
+    ∙ ap (λ (rs : List Row). rs ++ (following ++ rest)) (sym (records_more rows records i r less at))
 
 -- those up to a row are too large, so all are
 pub front_too_large : (all front rest : List Row) → all ≡ front ++ rest → IsTooLarge front → IsTooLarge all

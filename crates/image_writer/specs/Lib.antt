@@ -11,5 +11,5 @@ pub mod Written
 pub mod Compact
 pub mod SystemImages
 pub mod UserImages
-pub mod Refusals
+pub mod WriterErrors
 pub mod FirstUses

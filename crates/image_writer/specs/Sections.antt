@@ -1,11 +1,11 @@
--- What the sections of a lexicon hold.
+-- The contents of the sections of a lexicon.
 use Rattle.std.specs.Prelude.{◌≡◌, ℕ, ◌+◌, ◌*◌, ◌<◌, ◌≤◌, List, [], ◌∷◌, ◌++◌, length, map, bytes_eq, false, slice_get, slice_range, Some}
 use Rattle.std.specs.List.{concat, list_any}
-use Rattle.image_bytes.specs.declared.layout.KeyForm.TheVariants.{Cells}
-use Rattle.image_bytes.specs.ImageBounds.{each_once, feature_bytes, feature_bytes_end}
-use Rattle.image_bytes.specs.ImageFaults.{HasKey}
-use Rattle.image_bytes.specs.ImageMeaning.{LexiconSections, lexicon_in}
-use Rattle.image_bytes.specs.ImageSections.{HoldGroups, HasFeature, IsIndex, stored_cells, stored_token, token_from}
+use Rattle.image_format.specs.declared.layout.KeyForm.TheVariants.{Cells}
+use Rattle.image_format.specs.ImageBounds.{each_once, feature_bytes, feature_bytes_end}
+use Rattle.image_format.specs.ImageFaults.{HasKey}
+use Rattle.image_format.specs.ImageMeaning.{LexiconSections, lexicon_in}
+use Rattle.image_format.specs.ImageSections.{HoldGroups, HasFeature, IsIndex, stored_cells, stored_token, token_from}
 use Rattle.mj_model.specs.Lexicon.{Row}
 use Rattle.mj_model.specs.UnkDef.{token_of}
 use Rattle.image_writer.specs.declared.feature_place.FeaturePlace.{FeaturePlace}
@@ -23,12 +23,12 @@ use Rattle.image_writer.specs.Compact.{AreCellsFor}
 abbrev pub sections_of : LexiconBytes → LexiconSections
 sections_of bytes = record { form = Cells; keys = bytes.keys.items; groups = bytes.groups.items; tokens = bytes.tokens.items; features = joined_texts bytes.features.items }
 
--- cells that hold each group once, each with a key
+-- the double array holds each group once, and each group has a key
 pub record HoldKeys (groups : ℕ) (cells : List ℕ) : Type 0 where
   pub once : HoldGroups groups cells
   pub keys : (group : ℕ) → group < groups → HasKey (stored_cells cells) group
 
--- the cells of the keys and the index of the groups, for these entries
+-- the double array of the keys and the group index, for these entries
 pub record AreKeyBytes (rows : List Row) (keys : KeyBytes) : Type 0 where
   pub hold_keys : HoldKeys keys.groups keys.cells.items
   pub cells : AreCellsFor (lexemes_of rows) keys.cells.items
@@ -36,7 +36,7 @@ pub record AreKeyBytes (rows : List Row) (keys : KeyBytes) : Type 0 where
   pub few : keys.groups ≤ length rows
   pub entries : AreUnderKeys rows keys.groups keys.cells.items keys.index.items
 
--- token i is the entry of this row, and well formed
+-- token `i` is the entry of this row, and is well formed
 pub record IsTokenOf (row : Row) (tokens features : List ℕ) (i : ℕ) : Type 0 where
   pub token : token_from tokens features i ≡ token_of (i, row)
   pub spare : (stored_token tokens i).spare ≡ 0
@@ -47,11 +47,12 @@ pub record HoldTokens (rows : List Row) (tokens features : List ℕ) : Type 0 wh
   pub fill : length tokens ≡ 16 * length rows
   pub each : (i : ℕ) (row : Row) → slice_get rows i ≡ Some row → IsTokenOf row tokens features i
 
--- the rows' features, in their order
+-- the features of rows, in their order
 abbrev pub features_of : List Row → List (List ℕ)
 features_of rows = map (λ (row : Row). row.feature) rows
 
--- the sections are well formed, and mean these entries of a lexicon and these unknown ones of each category
+-- the sections are well formed, and mean these lexicon entries and these unknown entries of each
+-- category
 pub record AreSections (lexicon : List Row) (unknown : List (List Row)) (s : LexiconBytes) : Type 0 where
   pub keys : HoldKeys s.group_count s.keys.items
   pub cells : AreCellsFor (lexemes_of lexicon) s.keys.items
@@ -62,67 +63,68 @@ pub record AreSections (lexicon : List Row) (unknown : List (List Row)) (s : Lex
   pub features : joined_texts s.features.items ≡ concat (each_once (features_of (all_rows lexicon unknown)))
   pub few_features : feature_bytes (tokens_of (all_rows lexicon unknown)) < feature_bytes_end
 
--- the features of these rows are too many for an image
+-- the features of these rows exceed the limit of an image
 abbrev pub IsTooLarge : List Row → Type 0
 IsTooLarge rows = feature_bytes_end ≤ feature_bytes (tokens_of rows)
 
 -- ---- while tokens are written
 
--- a text stands in the bytes from a place on
-pub record StandsAt (bytes text : List ℕ) (place : ℕ) : Type 0 where
+-- a text is stored at offset `place`
+pub record HasTextAt (bytes text : List ℕ) (place : ℕ) : Type 0 where
   pub within : place + length text ≤ length bytes
   pub is : slice_range bytes place (place + length text) ≡ text
 
--- the features of a store, one behind another
+-- the concatenated features of a store
 abbrev pub features_in : FeatureStore → List ℕ
 features_in store = joined_texts store.texts.items
 
--- a text stands at a place, in its length
+-- a text is stored at `place`, which has its length
 pub record HasPlace (bytes text : List ℕ) (place : FeaturePlace) : Type 0 where
-  pub stands : StandsAt bytes text place.start
+  pub is_stored : HasTextAt bytes text place.start
   pub long : place.length ≡ length text
 
--- the place of a text that is set behind these bytes
-abbrev pub place_behind : List ℕ → List ℕ → FeaturePlace
-place_behind bytes text = record { start = length bytes; length = length text }
+-- the position of a text that is appended to these bytes
+abbrev pub place_after : List ℕ → List ℕ → FeaturePlace
+place_after bytes text = record { start = length bytes; length = length text }
 
--- the store has each of the texts once, in the order of their first uses, and knows the place of each
+-- the store has each distinct text once, in the order of first uses, and the position of each text
 pub record HoldsTexts (texts : List (List ℕ)) (store : FeatureStore) : Type 0 where
   pub bytes : features_in store ≡ concat (each_once texts)
   pub long : length store.places.items ≡ length texts
   pub places : (i : ℕ) (text : List ℕ) (place : FeaturePlace) → slice_get texts i ≡ Some text → slice_get store.places.items i ≡ Some place → HasPlace (features_in store) text place
 
--- `first` is the number of a text behind these, or of the first one of them that is the same
+-- `first` is the number of the first text that equals `text`, or is not below their number if there
+-- is none
 pub record IsNextUse (texts : List (List ℕ)) (text : List ℕ) (first : ℕ) : Type 0 where
   pub there : first < length texts → slice_get texts first ≡ Some text
   pub new : length texts ≤ first → list_any (bytes_eq text) texts ≡ false
 
--- a fact of whatever texts the store has, of which this is the next use
+-- `IsFact` holds for all texts that the store may have, if the next text is `text`
 abbrev pub OnNextUse : FeatureStore → List ℕ → ℕ → (List (List ℕ) → Type 0) → Type 0
 OnNextUse store text first IsFact = (texts : List (List ℕ)) → HoldsTexts texts store → IsNextUse texts text first → IsFact texts
 
--- a store has the bytes of one more text, at this place, and keeps the bytes before
+-- the store after one more text, which is stored at `place`; earlier bytes are unchanged
 pub record IsPlaced (texts : List (List ℕ)) (text : List ℕ) (old new : FeatureStore) (place : FeaturePlace) : Type 0 where
   pub bytes : features_in new ≡ concat (each_once (texts ++ text ∷ []))
-  pub stands : HasPlace (features_in new) text place
+  pub is_stored : HasPlace (features_in new) text place
   pub same_places : new.places.items ≡ old.places.items
   pub more : List ℕ
   pub kept : features_in new ≡ features_in old ++ more
 
--- and knows its place
+-- the store after one more text, with its position; earlier bytes are unchanged
 pub record HoldsOneMore (texts : List (List ℕ)) (text : List ℕ) (old new : FeatureStore) (place : FeaturePlace) : Type 0 where
   pub holds : HoldsTexts (texts ++ text ∷ []) new
-  pub stands : HasPlace (features_in new) text place
+  pub is_stored : HasPlace (features_in new) text place
   pub more : List ℕ
   pub kept : features_in new ≡ features_in old ++ more
 
--- the tokens of these rows, the first of all, are written
+-- the tokens of `rows`, which are the first of `all`, are written
 pub record AreWritten (all rows : List Row) (writer : TokenWriter) : Type 0 where
   pub tokens : HoldTokens rows writer.tokens.items (features_in writer.features)
   pub features : HoldsTexts (features_of rows) writer.features
   pub firsts : AreFirstUses (features_of all) writer.firsts.items
 
--- tokens and features as they stand in an image
+-- the tokens and features of these rows, as an image stores them
 pub record AreTokenBytes (rows : List Row) (bytes : TokenBytes) : Type 0 where
   pub tokens : HoldTokens rows bytes.tokens.items (joined_texts bytes.features.items)
   pub features : joined_texts bytes.features.items ≡ concat (each_once (features_of rows))

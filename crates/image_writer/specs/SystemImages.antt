@@ -1,14 +1,14 @@
 -- The image of a system dictionary.
 use Rattle.std.specs.Prelude.{◌≡◌, ℕ, ◌<◌, pos, List, length, map, if◌then◌else◌}
 use Rattle.mj_model.specs.CharDef.{NamedCategory}
-use Rattle.image_bytes.specs.ImageBounds.{feature_bytes, feature_bytes_end}
+use Rattle.image_format.specs.ImageBounds.{feature_bytes, feature_bytes_end}
 use Rattle.mj_model.specs.Connection.{is_pair}
-use Rattle.image_bytes.specs.declared.layout.TheConstants.{LAYOUT}
-use Rattle.image_bytes.specs.ImageBytes.{header_of, section}
-use Rattle.image_bytes.specs.ImageFaults.{IsIntact}
-use Rattle.image_bytes.specs.ImageMeaning.{image_categories, image_tables}
+use Rattle.image_format.specs.declared.layout.TheConstants.{LAYOUT}
+use Rattle.image_format.specs.ImageBytes.{header_of, section}
+use Rattle.image_format.specs.ImageFaults.{IsIntact}
+use Rattle.image_format.specs.ImageMeaning.{image_categories, image_tables}
 use Rattle.mj_model.specs.Lexicon.{Row}
-use Rattle.mj_model.specs.SourceTables.{SayTheSame}
+use Rattle.mj_model.specs.SourceTables.{HaveSameMeaning}
 use Rattle.mj_model.specs.Tables.{Tables, System}
 use Rattle.mj_model.specs.UnkDef.{unknown_tokens}
 use Rattle.matrix_def.specs.Costs.{CostTable, matrix_cost}
@@ -16,7 +16,7 @@ use Rattle.char_def.specs.Categories.{CharCategories, table_info}
 use Rattle.image_writer.specs.Entries.{all_rows, lexemes_of, tokens_of}
 use Rattle.image_writer.specs.Compact.{AreCellsFor, AreChanging, features_once}
 
--- the tables of a system dictionary, part by part
+-- the tables of a system dictionary from its sources
 abbrev pub tables_with : CostTable → CharCategories → List (List Row) → List Row → Tables
 tables_with matrix chars unknown rows = record {
   kind = System;
@@ -28,11 +28,11 @@ tables_with matrix chars unknown rows = record {
   lexicon = lexemes_of rows;
 }
 
--- a well-formed image of layout 3 whose tables are these
+-- an intact image of the newest layout with these tables
 pub record IsSystemImage (matrix : CostTable) (chars : CharCategories) (unknown : List (List Row)) (rows : List Row) (image : List ℕ) : Type 0 where
   pub intact : IsIntact image
   pub layout : (header_of image).layout ≡ LAYOUT
-  pub tables : SayTheSame (image_tables image) (tables_with matrix chars unknown rows)
+  pub tables : HaveSameMeaning (image_tables image) (tables_with matrix chars unknown rows)
   pub categories : image_categories image ≡ chars.categories
   pub ranges : AreChanging (section image 3)
   pub cells : AreCellsFor (lexemes_of rows) (section image 5)

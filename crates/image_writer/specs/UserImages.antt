@@ -1,17 +1,17 @@
 -- The image of a user dictionary.
 use Rattle.std.specs.Prelude.{◌≡◌, ℕ, ◌<◌, List}
-use Rattle.image_bytes.specs.ImageBounds.{feature_bytes, feature_bytes_end}
+use Rattle.image_format.specs.ImageBounds.{feature_bytes, feature_bytes_end}
 use Rattle.mj_model.specs.declared.matrix_sizes.MatrixSizes.{MatrixSizes}
-use Rattle.image_bytes.specs.declared.layout.TheConstants.{LAYOUT}
-use Rattle.image_bytes.specs.ImageBytes.{header_of, section}
-use Rattle.image_bytes.specs.ImageFaults.{IsIntact}
-use Rattle.image_bytes.specs.ImageMeaning.{image_lexicon, image_tables}
+use Rattle.image_format.specs.declared.layout.TheConstants.{LAYOUT}
+use Rattle.image_format.specs.ImageBytes.{header_of, section}
+use Rattle.image_format.specs.ImageFaults.{IsIntact}
+use Rattle.image_format.specs.ImageMeaning.{image_lexicon, image_tables}
 use Rattle.mj_model.specs.Lexicon.{Row}
 use Rattle.mj_model.specs.Tables.{User}
 use Rattle.image_writer.specs.Entries.{lexemes_of, tokens_of}
 use Rattle.image_writer.specs.Compact.{AreCellsFor, features_once}
 
--- a well-formed image of layout 3 of a user dictionary with these sizes and these entries
+-- an intact image of the newest layout of a user dictionary with these sizes and entries
 pub record IsUserImage (sizes : MatrixSizes) (rows : List Row) (image : List ℕ) : Type 0 where
   pub intact : IsIntact image
   pub layout : (header_of image).layout ≡ LAYOUT

@@ -1,13 +1,14 @@
-//! Section 2: categories.
+//! Section 2: character categories.
 ghost use Rattle.std.specs.Prelude.{◌≡◌, ◌<◌, ◌++◌, length, IfOk, OnOk};
-ghost use Rattle.image_bytes.specs.ImageSections.{category_bytes};
+ghost use Rattle.image_format.specs.ImageSections.{category_bytes};
 ghost use Rattle.image_writer.specs.StoredTables.{AreCategoriesOf};
 
 use char_def::CharTable;
 use mj_model::Category;
 use std::alloc::{AllocError, Global};
 
-/// The categories, one behind another: INVOKE, GROUP and LENGTH, the length of the name, and the name. On `Err` memory was refused.
+/// Returns the bytes of all categories: INVOKE, GROUP, LENGTH, the length of the name, and the name
+/// of each. Fails only if an allocation fails.
 pub(crate) fn write_categories(alloc: Global, chars: &CharTable) -> Result<Vec<u8>, AllocError>
     ensures { IfOk result (λ bytes. AreCategoriesOf chars.now bytes.items) }
 {
@@ -18,7 +19,7 @@ pub(crate) fn write_categories(alloc: Global, chars: &CharTable) -> Result<Vec<u
     Ok(bytes)
 }
 
-/// Appends a category of this name.
+/// Appends the bytes of a category with this name.
 fn append_category(category: Category, name: &str, bytes: &mut Vec<u8>) -> Result<(), AllocError>
     requires { length name.now < 256 }
     ensures { OnOk result (bytes.new.items ≡ bytes.old.items

@@ -1,16 +1,16 @@
-//! The cells of the keys as bytes.
+//! The bytes of the double array.
 ghost use Rattle.std.specs.Prelude.{◌≡◌, ◌≤◌, ◌*◌, length, IfOk, OnOk};
-ghost use Rattle.cell_walk.specs.CellRules.{AreCells, AreOnKeys};
-ghost use Rattle.image_bytes.specs.ImageBounds.{cells_max};
-ghost use Rattle.image_bytes.specs.ImageSections.{stored_cells};
+ghost use Rattle.mj_model.specs.CellRules.{AreCells, AreOnKeys};
+ghost use Rattle.image_format.specs.ImageBounds.{cells_max};
+ghost use Rattle.image_format.specs.ImageSections.{stored_cells};
 ghost use Rattle.image_writer.specs.TokenBytes.{cell_bytes_of};
 
 use byteorder::{ByteOrder, LittleEndian};
-use cell_walk::CellRead;
 use double_array::DoubleArray;
+use mj_model::cell_walk::CellRead;
 use std::alloc::{AllocError, Global};
 
-/// The cells, 8 bytes each.
+/// Returns the bytes of the cells, 8 for each.
 pub(crate) fn write_cells(alloc: Global, array: &DoubleArray) -> Result<Vec<u8>, AllocError>
     ensures cells { IfOk result (λ bytes. stored_cells bytes.items ≡ array.now) }
     ensures fill { IfOk result (λ bytes. length bytes.items ≡ 8 * length array.now) }
@@ -26,7 +26,7 @@ pub(crate) fn write_cells(alloc: Global, array: &DoubleArray) -> Result<Vec<u8>,
     Ok(bytes)
 }
 
-/// A cell's base and check.
+/// Returns the bytes of a cell's BASE and CHECK.
 fn cell_bytes(base: i32, check: i32) -> [u8; 8]
     ensures { result ≡ cell_bytes_of (base, check) }
 {

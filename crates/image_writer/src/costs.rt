@@ -5,7 +5,7 @@ ghost use Rattle.image_writer.specs.StoredTables.{cost_section};
 use byteorder::{ByteOrder, LittleEndian};
 use std::alloc::AllocError;
 
-/// Appends costs, 2 bytes each. On `Err` memory was refused.
+/// Appends `costs` to `image`, 2 bytes each. Fails only if an allocation fails.
 pub(crate) fn append_costs(costs: &[i16], image: &mut Vec<u8>) -> Result<(), AllocError>
     ensures { OnOk result (image.new.items ≡ image.old.items ++ cost_section costs.now) }
 {

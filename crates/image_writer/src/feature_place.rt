@@ -1,8 +1,10 @@
-//! Places of features.
+//! Positions of features.
 
-/// Where a feature stands among the features: its first byte, and how many bytes it has.
+/// The position of a feature in the features section: its start and length in bytes.
 #[derive(Clone, Copy, Debug, Drop)]
 pub(crate) struct FeaturePlace {
+    /// Offset of the first byte.
     pub start: u32,
+    /// Length in bytes.
     pub length: u32,
 }

@@ -1,30 +1,31 @@
-//! The features of a lexicon, each once.
+//! The distinct features of a lexicon.
 ghost use Rattle.std.specs.Prelude.{◌≡◌, ◌<◌, ◌++◌, ◌∷◌, [], length, slice_get, IfOk, IfErr, OnOk};
-ghost use Rattle.image_bytes.specs.ImageBounds.{feature_bytes_end};
+ghost use Rattle.image_format.specs.ImageBounds.{feature_bytes_end};
 ghost use Rattle.image_writer.specs.Places.{joined_texts};
 
 use crate::feature_place::FeaturePlace;
-use image_bytes::FEATURE_BYTES_END;
+use image_format::FEATURE_BYTES_END;
 use mj_model::SourceKind;
 use std::alloc::{AllocError, Global};
 
-/// Features, each once, in the order of their first uses. They stay where they are until an image takes them.
+/// Distinct features in the order of their first uses. The texts are borrowed from the sources
+/// until an image is written.
 #[derive(Drop)]
 pub(crate) struct FeatureStore<'a> {
     pub texts: Vec<&'a str>,
-    /// How many bytes they have together.
+    /// The length of all texts in bytes.
     pub size: usize,
-    /// Where the feature of each entry so far stands.
+    /// The position of each entry's feature, for the entries so far.
     pub places: Vec<FeaturePlace>,
     ghost long: { size ≡ length (joined_texts texts.items) },
     ghost few: { size < feature_bytes_end },
 }
 
 impl<'a> FeatureStore<'a> {
-    ghost use Rattle.image_writer.specs.Refusals.{IsTokenFault, LargeOnlyOf, LargeOnlyWith};
-    ghost use Rattle.image_writer.specs.Sections.{HoldsTexts, HoldsOneMore, IsPlaced, OnNextUse, features_in, place_behind};
+    ghost use Rattle.image_writer.specs.WriterErrors.{IsTokenFault, LargeOnlyOf, LargeOnlyWith};
+    ghost use Rattle.image_writer.specs.Sections.{HoldsTexts, HoldsOneMore, IsPlaced, OnNextUse, features_in, place_after};
 
-    /// No features, and room for those of so many entries.
+    /// Returns an empty store with room for the features of `entries` entries.
     pub(crate) fn new(alloc: Global, entries: usize) -> Result<FeatureStore<'a>, AllocError>
         ensures { IfOk result (HoldsTexts []) }
     {
@@ -35,7 +36,8 @@ impl<'a> FeatureStore<'a> {
         })
     }
 
-    /// Where the feature of the next entry stands. `first` is the number of the first entry with this feature.
+    /// Returns the position of the next entry's feature, and stores it in `places`. `first` is the
+    /// number of the first entry with this feature.
     pub(crate) fn place_of(
         &mut self,
         feature: &'a str,
@@ -52,7 +54,8 @@ impl<'a> FeatureStore<'a> {
         Ok(place)
     }
 
-    /// The same place, which is not noted yet. A feature that no entry before has is added at the end.
+    /// Returns the position of a feature. Appends the feature to the texts if no earlier entry has
+    /// it. `first` is the number of the first entry with this feature.
     fn found_or_added(&mut self, feature: &'a str, first: usize) -> Result<FeaturePlace, SourceKind>
         ensures place { OnNextUse self.old feature.now first (λ texts.
             IfOk result (IsPlaced texts feature.now self.old self.new)) }
@@ -66,12 +69,13 @@ impl<'a> FeatureStore<'a> {
         }
     }
 
-    /// Adds a feature at the end.
+    /// Appends a feature to the texts. Returns its position, or `FeaturesTooLarge` if the features
+    /// would have `FEATURE_BYTES_END` bytes or more.
     fn add(&mut self, feature: &'a str) -> Result<FeaturePlace, SourceKind>
         ensures added { OnOk result (features_in self.new ≡ features_in self.old ++ feature.now) }
         ensures place { IfOk result (λ place. place
-            ≡ place_behind (features_in self.old) feature.now) }
-        ensures kept { self.new.places.items ≡ self.old.places.items }
+            ≡ place_after (features_in self.old) feature.now) }
+        ensures unchanged { self.new.places.items ≡ self.old.places.items }
         ensures large { IfErr result (LargeOnlyWith (features_in self.old) feature.now) }
         ensures kinds { IfErr result IsTokenFault }
     {
@@ -88,7 +92,7 @@ impl<'a> FeatureStore<'a> {
     }
 }
 
-/// The place of an entry's feature, if it is known.
+/// Returns the position of an entry's feature, or None if the entry has not been added yet.
 fn known_place(places: &[FeaturePlace], entry: usize) -> Option<FeaturePlace>
     ensures { result ≡ slice_get places.now entry }
 {

@@ -1,4 +1,4 @@
-//! Which entry is the first one with a feature.
+//! The first entry with each feature.
 ghost use Rattle.std.specs.Prelude.{◌≡◌, ◌<◌, ◌-◌, ℕ, List, All, ◌++◌, bytes_eq, length, IfOk, OnOk, slice_index};
 ghost use Rattle.mj_model.specs.Lexicon.{rows_of};
 ghost use Rattle.image_writer.specs.FirstUses.{AreFirstUses, AreNumbered, AreSortedUses, AreUses, IsFirstUse, IsWithin, entries_of, features_used, use_order};
@@ -10,7 +10,7 @@ use mj_model::Record;
 use std::alloc::{AllocError, Global};
 use std::cmp::Ordering;
 
-/// Appends the uses of the records' features.
+/// Appends the uses of the features of `records`.
 pub(crate) fn append_uses<'a>(
     records: &[Record<'a>],
     uses: &mut Vec<FeatureUse<'a>>,
@@ -30,7 +30,8 @@ pub(crate) fn append_uses<'a>(
     Ok(())
 }
 
-/// For each entry the number of the first one with the same feature. The uses of the features stand in the order of the entries.
+/// Returns for each entry the number of the first entry with an equal feature. `uses` must be in
+/// the order of the entries. Sorts them, so it takes n log n comparisons.
 pub(crate) fn first_uses(
     alloc: Global,
     mut uses: Vec<FeatureUse<'_>>,
@@ -42,8 +43,8 @@ pub(crate) fn first_uses(
     first_numbers(alloc, &uses)
 }
 
-/// How uses are sorted: those of one feature stand side by side, in the order of their entries. Most features are told apart by their
-/// marks, so that the features themselves are not read.
+/// Orders uses so that those of equal features are adjacent, in the order of their entries.
+/// Compares hashes first, so that most features are not read.
 fn by_feature(a: &FeatureUse<'_>, b: &FeatureUse<'_>) -> Ordering
     ensures { result ≡ use_order a.now b.now }
 {
@@ -56,7 +57,8 @@ fn by_feature(a: &FeatureUse<'_>, b: &FeatureUse<'_>) -> Ordering
     }
 }
 
-/// For each entry the number of the first one with the same feature, where the uses are sorted.
+/// Returns for each entry the number of the first entry with an equal feature. `uses` must be
+/// sorted by `by_feature`.
 fn first_numbers(alloc: Global, uses: &[FeatureUse<'_>]) -> Result<Vec<usize>, AllocError>
     requires { All (IsWithin (length uses.now)) uses.now }
     ensures { (texts : List (List ℕ)) → AreUses texts uses.now → AreSortedUses uses.now
@@ -71,7 +73,8 @@ fn first_numbers(alloc: Global, uses: &[FeatureUse<'_>]) -> Result<Vec<usize>, A
     Ok(firsts)
 }
 
-/// The number of the entry that uses the feature of use `k` first, where `before` is that of the use before it.
+/// Returns the first entry with the feature of use `k`. `before` is the first entry with the
+/// feature of the use before it.
 fn first_at(uses: &[FeatureUse<'_>], k: usize, before: usize) -> usize
     requires { k < length uses.now }
     ensures { (texts : List (List ℕ)) → AreUses texts uses.now → AreSortedUses uses.now
@@ -85,7 +88,7 @@ fn first_at(uses: &[FeatureUse<'_>], k: usize, before: usize) -> usize
     }
 }
 
-/// Whether two uses are of the same feature.
+/// Returns whether two uses are of equal features.
 fn have_one_feature(a: &FeatureUse<'_>, b: &FeatureUse<'_>) -> bool
     ensures { result ≡ bytes_eq a.now.feature.now b.now.feature.now }
 {

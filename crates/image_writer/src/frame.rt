@@ -7,12 +7,13 @@ ghost use Rattle.image_writer.specs.Places.{joined_texts};
 use crate::costs::append_costs;
 use crate::header::append_header;
 use crate::lexicon_bytes::LexiconBytes;
-use image_bytes::{DIGEST_LENGTH, HEADER_LENGTH, Header};
+use image_format::{DIGEST_LENGTH, HEADER_LENGTH, Header};
 use sha2::{Digest, Sha256};
 use std::alloc::{AllocError, Global};
 
-/// The image of a header, of connection costs, of the six sections after them, and of features. On `Err` memory was refused.
-/// The header and the digest are this project's own choice.
+/// Returns the image of a header, connection costs, the six sections that follow them, and
+/// features. Appends the SHA-256. (The layout is this project's own) Fails only if an allocation
+/// fails.
 pub fn write_image(
     alloc: Global,
     header: Header,
@@ -34,7 +35,7 @@ pub fn write_image(
     Ok(image)
 }
 
-/// The lengths of the sections of an image.
+/// Returns the lengths of the sections of an image in bytes.
 pub(crate) fn section_lengths(
     costs: &[i16],
     categories: &[u8],
@@ -58,7 +59,8 @@ pub(crate) fn section_lengths(
     ]
 }
 
-/// How many bytes an image with sections of these lengths has, so that it is never moved while it is written.
+/// Returns the length in bytes of an image with sections of these lengths, so that one allocation
+/// suffices.
 fn image_length(lengths: &[u64; 8]) -> usize {
     lengths
         .iter()
@@ -77,7 +79,7 @@ fn append_sections(sections: &[&[u8]; 6], image: &mut Vec<u8>) -> Result<(), All
     Ok(())
 }
 
-/// Appends texts, one behind another.
+/// Appends texts without separators.
 fn append_texts(texts: &[&str], image: &mut Vec<u8>) -> Result<(), AllocError>
     ensures { OnOk result (image.new.items ≡ image.old.items ++ joined_texts texts.now) }
 {

@@ -1,10 +1,10 @@
-//! Which entries each group has, as bytes.
+//! The bytes of the group index.
 ghost use Rattle.std.specs.Prelude.{◌≡◌, ◌<◌, ◌*◌, ◌+◌, ℕ, length, slice_index_or, IfOk};
-ghost use Rattle.image_bytes.specs.ImageSections.{index_at};
+ghost use Rattle.image_format.specs.ImageSections.{index_at};
 
 use std::alloc::{AllocError, Global};
 
-/// Where each group begins, and behind it the number of entries, 4 bytes each.
+/// Returns the first entry of each group and, after them, the number of entries, 4 bytes each.
 pub(crate) fn write_starts(
     alloc: Global,
     starts: &[u32],

@@ -1,10 +1,10 @@
-//! The groups of a lexicon: the entries of one surface, side by side.
+//! The groups of a lexicon. A group is the entries of one surface.
 ghost use Rattle.std.specs.Prelude.{◌≡◌, ◌≢◌, ◌<◌, ◌≤◌, ◌+◌, ◌-◌, ◌^◌, ◌++◌, ◌∷◌, [], ◌↔◌, length, IsTrue, IfOk, IfErr, OnOk};
-ghost use Rattle.cell_walk.specs.CellMap.{IsMapWith};
+ghost use Rattle.mj_model.specs.CellMap.{IsMapWith};
 ghost use Rattle.mj_model.specs.Lexicon.{rows_of};
 ghost use Rattle.mj_model.specs.declared.limits.TheConstants.{SURFACE_MAX as SurfaceMax};
-ghost use Rattle.image_writer.specs.Groups.{AreGrouped, BeginsGroup};
-ghost use Rattle.image_writer.specs.Refusals.{FullOnlyFor, FullOnlyNear, IsWriterFault, kind_of};
+ghost use Rattle.image_writer.specs.Groups.{AreGrouped, StartsGroup};
+ghost use Rattle.image_writer.specs.WriterErrors.{FullOnlyFor, FullOnlyNear, IsWriterFault, kind_of};
 ghost use Rattle.mj_model.specs.declared.source_fault.SourceKind.TheVariants.{FeaturesTooLarge};
 
 use double_array::{DaFault, DoubleArray};
@@ -12,18 +12,18 @@ use lex_source::SortedLexicon;
 use mj_model::{Record, SourceKind};
 use std::alloc::Global;
 
-/// The groups of a lexicon, numbered from 0 in the order of their surfaces.
+/// The groups of a lexicon, numbered from 0 in the byte order of their surfaces.
 #[derive(Drop)]
 pub(crate) struct Groups {
-    /// From surfaces to group numbers.
+    /// The double array that maps surfaces to group numbers.
     pub array: DoubleArray,
     /// The number of each group's first entry.
     pub starts: Vec<u32>,
 }
 
 impl Groups {
-    /// A further group.
-    fn begin(&mut self, surface: &[u8], start: u32) -> Result<(), SourceKind>
+    /// Adds a group with the surface `surface`, whose first entry is `start`.
+    fn start_group(&mut self, surface: &[u8], start: u32) -> Result<(), SourceKind>
         requires some { 0 < length surface.now }
         requires short { length surface.now ≤ SurfaceMax }
         requires few { length self.old.starts.items < 2 ^ 31 - 1 }
@@ -42,7 +42,7 @@ impl Groups {
     }
 }
 
-/// A refused insertion, as a fault of sources.
+/// Returns an error of the double array as an error of the sources.
 fn source_kind(fault: DaFault) -> SourceKind
     ensures { result ≡ kind_of fault }
 {
@@ -52,7 +52,7 @@ fn source_kind(fault: DaFault) -> SourceKind
     }
 }
 
-/// The groups of a lexicon.
+/// Returns the groups of a lexicon.
 pub(crate) fn group_entries(
     alloc: Global,
     lexicon: &SortedLexicon<'_>,
@@ -68,17 +68,17 @@ pub(crate) fn group_entries(
         starts: Vec::new(alloc),
     };
     for i in 0..records.len() {
-        if begins_group(records, i) {
-            groups.begin(records[i].surface.as_str().as_bytes(), i as u32)?;
+        if starts_group(records, i) {
+            groups.start_group(records[i].surface.as_str().as_bytes(), i as u32)?;
         }
     }
     Ok(groups)
 }
 
-/// Whether entry `i` is the first one of its surface.
-fn begins_group(records: &[Record<'_>], i: usize) -> bool
+/// Returns whether entry `i` is the first one with its surface.
+fn starts_group(records: &[Record<'_>], i: usize) -> bool
     requires { i < length records.now }
-    ensures { IsTrue result ↔ BeginsGroup (rows_of records.now) i }
+    ensures { IsTrue result ↔ StartsGroup (rows_of records.now) i }
 {
     i == 0 || records[i].surface != records[i - 1].surface
 }

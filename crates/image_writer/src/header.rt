@@ -3,7 +3,7 @@ ghost use Rattle.std.specs.Prelude.{◌≡◌, ◌++◌, OnOk};
 ghost use Rattle.image_writer.specs.Frames.{AreShort, AreSmall, header_bytes, length_bytes, number_bytes, number_list};
 
 use byteorder::{ByteOrder, LittleEndian};
-use image_bytes::{Header, MAGIC};
+use image_format::{Header, MAGIC};
 use std::alloc::AllocError;
 
 /// Appends the bytes of a header.

@@ -1,6 +1,6 @@
-//! The sections of the keys and of the groups.
+//! The sections of keys and groups.
 ghost use Rattle.std.specs.Prelude.{◌≢◌, IfOk, IfErr};
-ghost use Rattle.image_writer.specs.Refusals.{FullOnlyFor, IsWriterFault};
+ghost use Rattle.image_writer.specs.WriterErrors.{FullOnlyFor, IsWriterFault};
 ghost use Rattle.image_writer.specs.Sections.{AreKeyBytes};
 ghost use Rattle.mj_model.specs.declared.source_fault.SourceKind.TheVariants.{FeaturesTooLarge};
 
@@ -11,7 +11,7 @@ use lex_source::SortedLexicon;
 use mj_model::SourceKind;
 use std::alloc::Global;
 
-/// The cells of the keys, which entries each group has, and how many groups there are.
+/// The double array of the keys, the group index, and the number of groups.
 #[derive(Drop)]
 pub(crate) struct KeyBytes {
     pub cells: Vec<u8>,
@@ -19,7 +19,7 @@ pub(crate) struct KeyBytes {
     pub groups: u32,
 }
 
-/// The keys and groups of a lexicon.
+/// Returns the keys and groups of a lexicon.
 pub(crate) fn write_keys(alloc: Global, lexicon: &SortedLexicon<'_>) -> Result<KeyBytes, SourceKind>
     ensures keys { IfOk result (AreKeyBytes lexicon.now.rows) }
     ensures full { IfErr result (FullOnlyFor lexicon.now.rows) }

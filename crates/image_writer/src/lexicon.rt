@@ -2,7 +2,7 @@
 ghost use Rattle.std.specs.Prelude.{◌≡◌, List, [], IfOk, IfErr, OnOk};
 ghost use Rattle.mj_model.specs.Lexicon.{Row};
 ghost use Rattle.image_writer.specs.Entries.{all_rows};
-ghost use Rattle.image_writer.specs.Refusals.{FullOnlyFor, IsTokenFault, IsWriterFault, LargeOnlyFor};
+ghost use Rattle.image_writer.specs.WriterErrors.{FullOnlyFor, IsTokenFault, IsWriterFault, LargeOnlyFor};
 ghost use Rattle.image_writer.specs.FirstUses.{AreNumbered, features_used};
 ghost use Rattle.image_writer.specs.Sections.{AreKeyBytes, AreSections, AreTokenBytes, AreWritten, features_of};
 
@@ -18,9 +18,11 @@ use lex_source::SortedLexicon;
 use mj_model::SourceKind;
 use std::alloc::{AllocError, Global};
 
-/// The sections of a system dictionary: of its lexicon, and of the unknown entries of all categories.
+/// Returns the sections of a system dictionary's lexicon and of the unknown entries of all
+/// categories.
 ///
-/// The tokens of the unknown entries follow those of the lexicon, category by category. (The layout is this project's own.)
+/// The tokens of the unknown entries follow those of the lexicon, category by category. (The layout
+/// is this project's own.)
 pub(crate) fn write_lexicon<'a>(
     alloc: Global,
     lexicon: SortedLexicon<'a>,
@@ -28,7 +30,7 @@ pub(crate) fn write_lexicon<'a>(
 ) -> Result<LexiconBytes<'a>, SourceKind>
     ensures sections { IfOk result (AreSections lexicon.entry.rows unknown.now) }
 
-    // A refusal has its reason.
+    // The limits are reported only for entries that may exceed them.
     ensures large { IfErr result (LargeOnlyFor (all_rows lexicon.entry.rows unknown.now)) }
     ensures full { IfErr result (FullOnlyFor lexicon.entry.rows) }
     ensures kinds { IfErr result IsWriterFault }
@@ -42,14 +44,14 @@ pub(crate) fn write_lexicon<'a>(
     Ok(sections(keys, writer.into_bytes()))
 }
 
-/// The sections of a user dictionary.
+/// Returns the sections of a user dictionary's lexicon.
 pub(crate) fn write_user_lexicon<'a>(
     alloc: Global,
     lexicon: SortedLexicon<'a>,
 ) -> Result<LexiconBytes<'a>, SourceKind>
     ensures sections { IfOk result (AreSections lexicon.entry.rows []) }
 
-    // A refusal has its reason.
+    // The limits are reported only for entries that may exceed them.
     ensures large { IfErr result (LargeOnlyFor lexicon.entry.rows) }
     ensures full { IfErr result (FullOnlyFor lexicon.entry.rows) }
     ensures kinds { IfErr result IsWriterFault }
@@ -64,7 +66,7 @@ pub(crate) fn write_user_lexicon<'a>(
     Ok(sections(keys, writer.into_bytes()))
 }
 
-/// The keys and the tokens together.
+/// Combines the keys and the tokens.
 fn sections<'a>(keys: KeyBytes, tokens: TokenBytes<'a>) -> LexiconBytes<'a>
     ensures { (lexicon : List Row) → (unknown : List (List Row)) → AreKeyBytes lexicon keys
         → AreTokenBytes (all_rows lexicon unknown) tokens.entry
@@ -80,7 +82,7 @@ fn sections<'a>(keys: KeyBytes, tokens: TokenBytes<'a>) -> LexiconBytes<'a>
     }
 }
 
-/// The uses of the features of all entries, in the order of their tokens.
+/// Returns the uses of the features of all entries, in the order of their tokens.
 fn feature_uses<'a>(
     alloc: Global,
     lexicon: &SortedLexicon<'a>,
@@ -100,7 +102,7 @@ fn feature_uses<'a>(
     Ok(uses)
 }
 
-/// Adds the tokens of each category's unknown entries.
+/// Adds the tokens of the unknown entries, category by category.
 fn add_unknown<'a>(writer: &mut TokenWriter<'a>, unknown: &UnkTable<'a>) -> Result<(), SourceKind>
     ensures written { (rows : List Row) → AreWritten (all_rows rows unknown.now) rows writer.old
         → OnOk result (AreWritten (all_rows rows unknown.now) (all_rows rows unknown.now)

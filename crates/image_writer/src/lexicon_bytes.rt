@@ -1,19 +1,20 @@
-//! The sections of an image that hold a lexicon, before they stand in the image.
+//! The sections that hold a lexicon, before they are part of an image.
 ghost use Rattle.std.specs.Prelude.{◌≡◌, length};
 ghost use Rattle.image_writer.specs.Places.{joined_texts};
 
-/// The bytes of three sections, the features of the fourth where they stand, and how many groups (distinct surfaces) there are.
+/// The bytes of sections 5 to 7, the features of section 8, and the number of groups (distinct
+/// surfaces).
 #[derive(Drop)]
 pub(crate) struct LexiconBytes<'a> {
-    /// Cells of 8 bytes, which give each surface its group.
+    /// The double array that maps each surface to its group, 8 bytes a cell.
     pub keys: Vec<u8>,
-    /// Numbers of 4 bytes: the first token of each group, and the number of the lexicon's tokens.
+    /// The first token of each group, and the number of the lexicon's tokens, 4 bytes each.
     pub groups: Vec<u8>,
     /// Tokens of 16 bytes.
     pub tokens: Vec<u8>,
-    /// Each distinct feature once, in the order of its first token.
+    /// The distinct features, in the order of their first tokens.
     pub features: Vec<&'a str>,
-    /// How many bytes the features have.
+    /// The length of all features in bytes.
     pub feature_size: usize,
     pub group_count: u32,
     ghost long: { feature_size ≡ length (joined_texts features.items) },

@@ -1,4 +1,17 @@
-//! The images of system and user dictionaries: the header, the sections of what the sources say, and the digest.
+//! Writes the images of system and user dictionaries: the header, the sections compiled from the
+//! sources, and the SHA-256. Use it after the sources have been parsed; `dict_compile` does both.
+//! The images are compact: each distinct feature is stored once, and there are as few ranges of
+//! code points as possible.
+//!
+//! Example:
+//!
+//! ```text
+//! let sizes = MatrixSizes { right: 2, left: 2 };
+//! let mut lexicon = SourceLexicon::new(alloc, sizes);
+//! lexicon.add(alloc, "もも,1,1,1,X\n".as_bytes(), 0)?;
+//! let image = image_writer::write_user(alloc, lexicon.sorted()?)?;   // section 8 is b"X"
+//! ```
+//! The test `sections_of_lexicons` of `crates/dictionary_tests` runs it.
 #![tactic(auto)]
 
 mod categories;

@@ -1,14 +1,14 @@
-//! Marks of texts, by which they are compared before their bytes.
+//! Hashes of texts, which are compared before the texts themselves.
 ghost use Rattle.std.specs.Prelude.{◌≡◌};
 ghost use Rattle.image_writer.specs.Marks.{mark_of_bytes};
 
-/// The mark of no bytes. (Fowler, Noll and Vo, FNV-1a of 64 bits)
+/// The hash of the empty text. (Fowler, Noll and Vo, offset basis of FNV-1a with 64 bits)
 const NO_BYTES: u64 = 0xCBF2_9CE4_8422_2325;
 
-/// What each byte multiplies the mark by. (Fowler, Noll and Vo)
+/// The factor that each byte multiplies the hash by. (Fowler, Noll and Vo, FNV prime)
 const FACTOR: u64 = 0x100_0000_01B3;
 
-/// A number that mostly differs where texts do: FNV-1a of 64 bits. (Fowler, Noll and Vo)
+/// Returns the 64-bit FNV-1a hash of a text. (Fowler, Noll and Vo)
 pub(crate) fn mark_of(text: &str) -> u64
     ensures { result ≡ mark_of_bytes text.now }
 {

@@ -2,7 +2,7 @@
 ghost use Rattle.std.specs.Prelude.{◌≡◌, [], length, IfOk, IfErr};
 ghost use Rattle.char_def.specs.Outside.{all_lines_outside};
 ghost use Rattle.image_writer.specs.Entries.{all_rows};
-ghost use Rattle.image_writer.specs.Refusals.{FullOnlyFor, IsWriterFault, LargeOnlyFor};
+ghost use Rattle.image_writer.specs.WriterErrors.{FullOnlyFor, IsWriterFault, LargeOnlyFor};
 ghost use Rattle.image_writer.specs.SystemImages.{IsSystemImage};
 
 use crate::categories::write_categories;
@@ -12,13 +12,14 @@ use crate::lexicon_bytes::LexiconBytes;
 use crate::ranges::write_ranges;
 use crate::unknown_index::{unknown_count, write_unknown_index};
 use char_def::{CharTable, UnkTable};
-use image_bytes::{DictKind, Header, LAYOUT};
+use image_format::{DictKind, Header, LAYOUT};
 use lex_source::SortedLexicon;
 use matrix_def::Matrix;
 use mj_model::SourceKind;
 use std::alloc::Global;
 
-/// The image of a system dictionary. Its entries go as soon as their sections are made.
+/// Returns the image of a system dictionary. Frees the entries as soon as their sections are
+/// written.
 pub fn write_system<'a>(
     alloc: Global,
     matrix: &Matrix,
@@ -32,7 +33,7 @@ pub fn write_system<'a>(
     ensures image { IfOk result (λ image. IsSystemImage matrix.now chars.now unknown.now
         lexicon.entry.rows image.items) }
 
-    // A refusal has its reason.
+    // The limits are reported only for entries that may exceed them.
     ensures large { IfErr result (LargeOnlyFor (all_rows lexicon.entry.rows unknown.now)) }
     ensures full { IfErr result (FullOnlyFor lexicon.entry.rows) }
     ensures kinds { IfErr result IsWriterFault }

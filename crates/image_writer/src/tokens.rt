@@ -1,9 +1,9 @@
-//! The tokens of entries, and their features.
+//! Writing of tokens and their features.
 ghost use Rattle.std.specs.Prelude.{◌≡◌, ◌++◌, ◌∷◌, [], List, length, slice_index_or, IfOk, IfErr, OnOk};
 ghost use Rattle.mj_model.specs.Lexicon.{Row, row_of, rows_of};
 ghost use Rattle.image_writer.specs.FirstUses.{AreFirstUses};
 ghost use Rattle.image_writer.specs.Sections.{AreTokenBytes, AreWritten, features_of};
-ghost use Rattle.image_writer.specs.Refusals.{IsTokenFault, LargeOnlyFor};
+ghost use Rattle.image_writer.specs.WriterErrors.{IsTokenFault, LargeOnlyFor};
 ghost use Rattle.image_writer.specs.TokenBytes.{FitsBytes, stored_bytes, stored_with};
 
 use crate::feature_place::FeaturePlace;
@@ -13,17 +13,18 @@ use byteorder::{ByteOrder, LittleEndian};
 use mj_model::{Record, SourceKind};
 use std::alloc::{AllocError, Global};
 
-/// Tokens of 16 bytes, one behind another, and the features that they name.
+/// Tokens of 16 bytes, and the features that they refer to.
 #[derive(Drop)]
 pub(crate) struct TokenWriter<'a> {
     pub tokens: Vec<u8>,
     pub features: FeatureStore<'a>,
-    /// For each entry the number of the first one with the same feature.
+    /// For each entry the number of the first entry with an equal feature.
     pub firsts: Vec<usize>,
 }
 
 impl<'a> TokenWriter<'a> {
-    /// No tokens, for entries with these first uses of their features.
+    /// Returns a writer without tokens. `firsts` are the results of `first_uses` for all entries to
+    /// come.
     pub(crate) fn new(alloc: Global, firsts: Vec<usize>) -> Result<TokenWriter<'a>, AllocError>
         ensures { (all : List Row) → AreFirstUses (features_of all) firsts.items
             → IfOk result (AreWritten all []) }
@@ -36,7 +37,7 @@ impl<'a> TokenWriter<'a> {
         })
     }
 
-    /// Adds the tokens of all the records, in their order.
+    /// Appends the tokens of `records`, in their order.
     pub(crate) fn add_all(&mut self, records: &[Record<'a>]) -> Result<(), SourceKind>
         ensures written { (all rows rest : List Row) → all ≡ (rows ++ rows_of records.now) ++ rest
             → AreWritten all rows self.old
@@ -51,7 +52,7 @@ impl<'a> TokenWriter<'a> {
         Ok(())
     }
 
-    /// Adds the token of a record.
+    /// Appends the token of a record.
     fn add(&mut self, row: &Record<'a>) -> Result<(), SourceKind>
         ensures written { (all rows rest : List Row) → all ≡ (rows ++ row_of row.now ∷ []) ++ rest
             → AreWritten all rows self.old
@@ -69,7 +70,7 @@ impl<'a> TokenWriter<'a> {
         Ok(())
     }
 
-    /// What was written.
+    /// Returns the written tokens and features.
     pub(crate) fn into_bytes(self) -> TokenBytes<'a>
         ensures { (rows : List Row) → AreWritten rows rows self.entry
             → AreTokenBytes rows result }
@@ -88,7 +89,7 @@ impl<'a> TokenWriter<'a> {
     }
 }
 
-/// The first entry with the same feature as this one, or this one itself where none is told.
+/// Returns the first entry with the feature of `entry`, or `entry` itself if `firsts` is too short.
 fn first_of(firsts: &[usize], entry: usize) -> usize
     ensures { result ≡ slice_index_or firsts.now entry entry }
 {
@@ -98,7 +99,7 @@ fn first_of(firsts: &[usize], entry: usize) -> usize
     }
 }
 
-/// The 16 bytes of a token whose feature stands there.
+/// Returns the 16 bytes of a token. `place` is the position of its feature.
 fn token_bytes(left: u16, right: u16, cost: i16, place: FeaturePlace) -> [u8; 16]
     ensures bytes { result ≡ stored_bytes (stored_with left right cost place.start place.length) }
     ensures fits { FitsBytes (stored_with left right cost place.start place.length) }

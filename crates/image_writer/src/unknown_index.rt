@@ -1,4 +1,4 @@
-//! Section 4: which tokens the unknown entries of each category have.
+//! Section 4: the unknown tokens of each category.
 ghost use Rattle.std.specs.Prelude.{◌≡◌, ◌≤◌, length, IfOk};
 ghost use Rattle.std.specs.List.{sum_by};
 ghost use Rattle.mj_model.specs.declared.limits.TheConstants.{ENTRIES_MAX as EntriesMax};
@@ -7,8 +7,9 @@ ghost use Rattle.image_writer.specs.StoredTables.{AreUnknownOf};
 use char_def::UnkTable;
 use std::alloc::{AllocError, Global};
 
-/// The number of each category's first unknown entry, where this many entries of the lexicon stand before, and behind them the number of
-/// all entries; 4 bytes each. On `Err` memory was refused.
+/// Returns the first unknown token of each category and, after them, the number of all tokens, 4
+/// bytes each. `entries` is the number of lexicon entries, whose tokens precede the unknown ones.
+/// Fails only if an allocation fails.
 pub(crate) fn write_unknown_index(
     alloc: Global,
     unknown: &UnkTable<'_>,
@@ -27,7 +28,7 @@ pub(crate) fn write_unknown_index(
     Ok(bytes)
 }
 
-/// How many unknown entries there are in all.
+/// Returns the number of unknown entries in all categories.
 pub(crate) fn unknown_count(unknown: &UnkTable<'_>) -> usize
     ensures count { result ≡ sum_by length unknown.now }
     ensures few { result ≤ EntriesMax }

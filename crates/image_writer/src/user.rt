@@ -1,23 +1,24 @@
 //! The image of a user dictionary.
 ghost use Rattle.std.specs.Prelude.{IfOk, IfErr};
 ghost use Rattle.mj_model.specs.Connection.{AreMatrixSizes};
-ghost use Rattle.image_writer.specs.Refusals.{FullOnlyFor, IsWriterFault, LargeOnlyFor};
+ghost use Rattle.image_writer.specs.WriterErrors.{FullOnlyFor, IsWriterFault, LargeOnlyFor};
 ghost use Rattle.image_writer.specs.UserImages.{IsUserImage};
 
 use crate::frame::{section_lengths, write_image};
 use crate::lexicon::write_user_lexicon;
-use image_bytes::{DictKind, Header, LAYOUT};
+use image_format::{DictKind, Header, LAYOUT};
 use lex_source::SortedLexicon;
 use mj_model::SourceKind;
 use std::alloc::Global;
 
-/// The image of a user dictionary for connection costs of the lexicon's sizes. Its entries go as soon as their sections are made.
+/// Returns the image of a user dictionary for a system dictionary with the sizes of `lexicon`.
+/// Frees the entries as soon as their sections are written.
 pub fn write_user(alloc: Global, lexicon: SortedLexicon<'_>) -> Result<Vec<u8>, SourceKind>
     requires sizes { AreMatrixSizes lexicon.sizes }
     ensures image { IfOk result (λ image. IsUserImage lexicon.entry.sizes lexicon.entry.rows
         image.items) }
 
-    // A refusal has its reason.
+    // The limits are reported only for entries that may exceed them.
     ensures large { IfErr result (LargeOnlyFor lexicon.entry.rows) }
     ensures full { IfErr result (FullOnlyFor lexicon.entry.rows) }
     ensures kinds { IfErr result IsWriterFault }

@@ -1,10 +1,22 @@
-//! `jseg`: cuts the text on standard input into words.
+//! `jseg`: segments the text on standard input.
 #![tactic(auto)]
 
-use jseg_work::{do_task, say_more, task_given};
-use programs::run_program;
+use jseg_lib::{print_hints, read_command, run_command};
+use messages::jseg::texts;
+use messages::subjects;
+use programs::{arguments, run_program};
 use std::process::ExitCode;
 
 fn main(rt: HostRuntime) -> ExitCode {
-    run_program(&rt, "jseg", task_given, do_task, say_more)
+    let explanations = subjects();
+    let texts = texts(&explanations);
+    let words = arguments(&rt, "jseg");
+    run_program(
+        &rt,
+        "jseg",
+        words,
+        |rt, words| read_command(rt, words, &texts),
+        run_command,
+        print_hints,
+    )
 }

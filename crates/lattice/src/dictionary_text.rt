@@ -3,20 +3,21 @@
 ghost use Rattle.std.specs.Prelude.{◌≡◌, ◌≤◌, length, slice_get, All, IfOk, IsUtf8};
 ghost use Rattle.std.proofs.Props.{props};
 ghost use Rattle.mj_model.specs.declared.limits.TheConstants.{SENTENCE_MAX};
-ghost use Rattle.paths.specs.BestOver.{IsBestOver, cost_over};
+ghost use Rattle.mj_model.specs.BestOver.{IsBestPathOver, cost_over};
 ghost use Rattle.word_lookup.specs.Overlays.{overlay_of};
-ghost use Rattle.lattice_nodes.specs.LatticeNodes.{AreWordsOfLattice, HasLeastThrough, HasLeastTotal};
+ghost use Rattle.viterbi.specs.Nodes.LatticeNodes.{AreWordsOfLattice, HasLeastThrough, HasLeastForwardCost};
 ghost use Rattle.lattice.specs.TextOver.{text_over};
 
 use crate::lattice::Lattice;
-use lattice_nodes::{LatticeNode, lattice_nodes};
 use mj_model::Word;
-use path_search::WordSource;
-use paths::{LastRuns, Path, Surface};
+use mj_model::paths::{Path, Surface};
 use std::alloc::{AllocError, Global};
-use word_lookup::{CostsBefore, Dictionaries, SurfaceWords, have_same_entries};
+use viterbi::nodes::{LatticeNode, lattice_nodes};
+use viterbi::search::WordSource;
+use word_lookup::{CostsBefore, Dictionaries, ScanCache, SurfaceWords, have_same_unknown_entries};
 
-/// A text over dictionaries.
+/// A text with the dictionaries that its words are looked up in: the source of words for the
+/// search.
 #[derive(Drop)]
 pub struct DictionaryText<'a> {
     pub dictionaries: &'a Dictionaries<'a>,
@@ -25,25 +26,39 @@ pub struct DictionaryText<'a> {
 }
 
 impl<'a> WordSource for DictionaryText<'a> {
+    ghost use Rattle.word_lookup.specs.ScanCaches.{AreScansOver, IsScannedAt};
+
     type Words = SurfaceWords<'a>;
 
     ghost words_in = { λ words. words };
 
-    ghost says = { λ s. text_over (overlay_of s.dictionaries.now) s.text.now };
+    ghost searched_text = { λ s. text_over (overlay_of s.dictionaries.now) s.text.now };
+
+    // The runs of blanks and of characters that were scanned last.
+    type Cursor = ScanCache;
+
+    ghost is_cursor = { λ s cursor.
+        AreScansOver (overlay_of s.dictionaries.now) s.text.now cursor };
+
+    ghost is_scanned = { λ s place cursor.
+        IsScannedAt (overlay_of s.dictionaries.now) s.text.now place cursor };
 
     fn length(&self) -> usize {
         self.text.len()
+    }
+
+    fn cursor(&self) -> ScanCache {
+        ScanCache::none()
     }
 
     #[inline(always)]
     fn surfaces_at(
         &self,
         place: usize,
-        last: &mut LastRuns,
+        cursor: &mut ScanCache,
         out: &mut Vec<Surface>,
     ) -> Result<(), AllocError> {
-        self.dictionaries
-            .surfaces_in_turn(self.text, place, last, out)
+        self.dictionaries.surfaces_at(self.text, place, cursor, out)
     }
 
     fn words_of(&self, surface: &Surface) -> SurfaceWords<'a> {
@@ -54,12 +69,12 @@ impl<'a> WordSource for DictionaryText<'a> {
         words.word(i)
     }
 
-    fn alone(&self, surface: &Surface, i: u32) -> Surface {
-        self.dictionaries.alone(surface, i)
+    fn single_word_surface(&self, surface: &Surface, i: u32) -> Surface {
+        self.dictionaries.single_word_surface(surface, i)
     }
 
-    fn are_alike(&self, one: &Surface, other: &Surface) -> bool {
-        have_same_entries(one, other)
+    fn are_interchangeable(&self, one: &Surface, other: &Surface) -> bool {
+        have_same_unknown_entries(one, other)
     }
 
     type Costs = CostsBefore<'a>;
@@ -75,7 +90,9 @@ impl<'a> WordSource for DictionaryText<'a> {
     }
 }
 
-/// The best path of a text of at most `SENTENCE_MAX` bytes, by a lattice of its own.
+/// Returns the best path of a text of at most `SENTENCE_MAX` bytes, with a new `Lattice`.
+///
+/// For more than one text, use `Lattice::best`, which reuses its buffers.
 pub fn best_path(
     alloc: Global,
     dictionaries: &Dictionaries<'_>,
@@ -83,7 +100,7 @@ pub fn best_path(
 ) -> Result<Path, AllocError>
     requires { length text.now ≤ SENTENCE_MAX }
     ensures best { IfOk result
-        (λ path. IsBestOver (overlay_of dictionaries.now) text.now path.words.items) }
+        (λ path. IsBestPathOver (overlay_of dictionaries.now) text.now path.words.items) }
     ensures total { IfOk result
         (λ path. path.total ≡ cost_over (overlay_of dictionaries.now) path.words.items) }
 {
@@ -91,7 +108,8 @@ pub fn best_path(
     lattice.best(dictionaries, text)
 }
 
-/// The nodes of the lattice of a text of at most `SENTENCE_MAX` bytes: by place, and those of a place in the order of its words.
+/// Returns the nodes of the lattice of a text of at most `SENTENCE_MAX` bytes, by position and in
+/// the order of the words of a position.
 pub fn lattice_of(
     alloc: Global,
     dictionaries: &Dictionaries<'_>,
@@ -101,10 +119,10 @@ pub fn lattice_of(
     // The words that some chain reaches, in their order, each once.
     ensures words { IfOk result (λ nodes.
         AreWordsOfLattice (text_over (overlay_of dictionaries.now) text.now) nodes.items) }
-    // The least cost of the chains up to and with each.
-    ensures totals { IfOk result (λ nodes.
-        All (HasLeastTotal (text_over (overlay_of dictionaries.now) text.now)) nodes.items) }
-    // The least cost of the paths that have each, or none where no path has it.
+    // The forward cost of each node.
+    ensures forward_costs { IfOk result (λ nodes.
+        All (HasLeastForwardCost (text_over (overlay_of dictionaries.now) text.now)) nodes.items) }
+    // The least cost of the paths that contain each node, or `None` if there are none.
     ensures through { IfOk result (λ nodes.
         All (HasLeastThrough (text_over (overlay_of dictionaries.now) text.now)) nodes.items) }
 {

@@ -2,18 +2,19 @@
 
 ghost use Rattle.std.specs.Prelude.{◌≤◌, length, IfOk};
 ghost use Rattle.mj_model.specs.declared.limits.TheConstants.{SENTENCE_MAX};
-ghost use Rattle.paths.specs.BestOver.{IsBestOver};
-ghost use Rattle.path_rivals.specs.Kept.{AreRivalsIn};
+ghost use Rattle.mj_model.specs.BestOver.{IsBestPathOver};
+ghost use Rattle.viterbi.specs.Rivals.RivalsState.{AreRivalsIn};
 ghost use Rattle.word_lookup.specs.Overlays.{overlay_of};
 ghost use Rattle.lattice.specs.TextOver.{text_over};
 
 use crate::dictionary_text::DictionaryText;
 use mj_model::Word;
-use path_rivals::{Rivals, rivals_of};
 use std::alloc::{AllocError, Global};
+use viterbi::rivals::{Rivals, rivals_of};
 use word_lookup::Dictionaries;
 
-/// The rivals of the words of a text of at most `SENTENCE_MAX` bytes, whose best path they are.
+/// Prepares the search for the rivals of the words of `best`, the best path of a text of at most
+/// `SENTENCE_MAX` bytes.
 pub fn rivals_over(
     alloc: Global,
     dictionaries: &Dictionaries<'_>,
@@ -21,7 +22,7 @@ pub fn rivals_over(
     best: &[Word],
 ) -> Result<Rivals, AllocError>
     requires short { length text.now ≤ SENTENCE_MAX }
-    requires best { IsBestOver (overlay_of dictionaries.now) text.now best.now }
+    requires best { IsBestPathOver (overlay_of dictionaries.now) text.now best.now }
     ensures { IfOk result
         (AreRivalsIn (text_over (overlay_of dictionaries.now) text.now) best.now) }
 {

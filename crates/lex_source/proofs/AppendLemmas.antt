@@ -8,17 +8,17 @@ use Rattle.mj_model.specs.declared.source_fault.SourceKind.{SourceKind}
 use Rattle.mj_model.specs.declared.source_fault.SourceKind.TheVariants.{Memory}
 use Rattle.mj_model.specs.Lines.{numbered_lines}
 use Rattle.mj_model.specs.Lexicon.{Row, row_of, rows_of, lexicon_outcome, IsLexicon}
-use Rattle.lex_source.specs.Steps.{IsTaken, IsRefusedLine, IsReadUpTo, HasRead}
+use Rattle.lex_source.specs.Steps.{IsReadLine, IsRejectedLine, IsReadUpTo, HasRead}
 use Rattle.lex_source.proofs.LexiconLemmas.{read_none, skipped_below, line_taken, line_refused, all_read}
 
-pub begun : (old : List Record) (bytes : List ℕ) (left : List (ℕ × List ℕ)) → left ≡ numbered_lines bytes → HasRead old old (numbered_lines bytes) left 0
-begun old bytes left is = record {
+pub started : (old : List Record) (bytes : List ℕ) (left : List (ℕ × List ℕ)) → left ≡ numbered_lines bytes → HasRead old old (numbered_lines bytes) left 0
+started old bytes left is = record {
   more = [];
   appended = sym (append-nil old);
   read = subst (λ (ls : List (ℕ × List ℕ)). IsReadUpTo lexicon_outcome (length old) (numbered_lines bytes) ls [] 0) (sym is) (read_none lexicon_outcome (length old) bytes);
 }
 
--- how many records are held
+-- the number of held records
 room : (old now more : List Record) → now ≡ old ++ more → length now ≡ length old + length (rows_of more)
 room old now more is = ap (λ (xs : List Record). length xs) is ∙ length-append old more ∙ ap (λ (n : ℕ). length old + n) (sym (length-map more row_of))
 
@@ -26,7 +26,7 @@ pub still_below : (old now : List Record) (all left lines : List (ℕ × List �
 still_below old now all left lines number line skipped r is = skipped_below lexicon_outcome (length old) all number line left lines (rows_of r.more) skipped is r.read
 
 pub taken : (old now new : List Record) (all left lines : List (ℕ × List ℕ)) (number : ℕ) (line : List ℕ) (skipped k : ℕ) (counts : Bool) → HasRead old now all lines skipped → lines ≡ (number, line) ∷ left
-    → (m : List Record) × (new ≡ now ++ m) × IsTaken lexicon_outcome number line (length now) counts (rows_of m) → k ≡ cond counts 1 0 → HasRead old new all left (skipped + k)
+    → (m : List Record) × (new ≡ now ++ m) × IsReadLine lexicon_outcome number line (length now) counts (rows_of m) → k ≡ cond counts 1 0 → HasRead old new all left (skipped + k)
 taken old now new all left lines number line skipped k counts r is t e = record {
   more = r.more ++ t.0;
   appended = t.1 ∙ ap (λ (xs : List Record). xs ++ t.0) r.appended ∙ append_assoc old r.more t.0;
@@ -35,11 +35,11 @@ taken old now new all left lines number line skipped k counts r is t e = record 
       (line_taken lexicon_outcome (length old) all number line left lines (rows_of r.more) (rows_of t.0) skipped (length now) counts is r.read (room old now r.more r.appended) t.2));
 }
 
-pub refused : (old now : List Record) (bytes : List ℕ) (left lines : List (ℕ × List ℕ)) (file number : ℕ) (line : List ℕ) (skipped : ℕ) (kind : SourceKind) → HasRead old now (numbered_lines bytes) lines skipped
-    → lines ≡ (number, line) ∷ left → (kind ≡ Memory) ⊎ IsRefusedLine lexicon_outcome number line (length now) kind
+pub rejected : (old now : List Record) (bytes : List ℕ) (left lines : List (ℕ × List ℕ)) (file number : ℕ) (line : List ℕ) (skipped : ℕ) (kind : SourceKind) → HasRead old now (numbered_lines bytes) lines skipped
+    → lines ≡ (number, line) ∷ left → (kind ≡ Memory) ⊎ IsRejectedLine lexicon_outcome number line (length now) kind
     → (kind ≡ Memory) ⊎ IsLexicon file (length old) bytes (Err (record { file = file; line = number; kind = kind }))
-refused old now bytes left lines file number line skipped kind r is (inl memory) = inl memory
-refused old now bytes left lines file number line skipped kind r is (inr cause) =
+rejected old now bytes left lines file number line skipped kind r is (inl memory) = inl memory
+rejected old now bytes left lines file number line skipped kind r is (inr cause) =
     inr (line_refused lexicon_outcome file (length old) bytes number line left lines (rows_of r.more) skipped (length now) kind is r.read (room old now r.more r.appended) cause)
 
 pub finished : (old now : List Record) (bytes : List ℕ) (lines : List (ℕ × List ℕ)) (file skipped : ℕ) → HasRead old now (numbered_lines bytes) lines skipped → lines ≡ []

@@ -1,4 +1,4 @@
--- Entries of lexicons: those of accepted lines are as a lexicon's entries always are, and stay so when they are sorted.
+-- Entries of lexicons: those of accepted lines are valid, and stay so when they are sorted.
 use Rattle.std.proofs.Common.{◌≡◌, ℕ, suc, ◌+◌, ◌-◌, ◌<◌, ◌≤◌, Bool, true, false, cond, List, [], ◌∷◌, ◌++◌, length, take, drop, get_or, refl, sym, ap, ◌∙◌, subst, arith, drop-cons, drop_at, length-append, length-drop, take_all, zero}
 use Rattle.std.proofs.Math.Seq.{take-append_seam}
 use Rattle.std.specs.Prelude.{All, Option, Some, None, Result, Ok, Err, IfOk, OnErr, ℤ, nat_le, nat_eq, option_and_then, option_map}
@@ -23,13 +23,13 @@ use Rattle.lex_source.specs.Lexicons.{AreLexiconRows, AreSortedRows, IsLexiconRo
 
 -- ---- the first record whose ids lie outside
 
--- the rows from a record on, that record apart
+-- the rows from record i on: the row of record i, and those after it
 rest_rows : (records : List Record) (i : ℕ) (r : Record) → i < length records → r ≡ get_or records i r → rows_of (drop i records) ≡ row_of r ∷ rows_of (drop (i + 1) records)
 rest_rows records i r low is =
     ap rows_of (drop-cons records i r low ∙ ap (λ n. get_or records i r ∷ drop n records) {x = suc i} {y = i + 1} (omega arith))
     ∙ ap (λ x. row_of x ∷ rows_of (drop (i + 1) records)) (sym is)
 
--- the records so far were passed over, and one more is, whose ids lie within the sizes
+-- the records before i were skipped, and so is record i, whose ids lie within the sizes
 pub outside_more : (sizes : MatrixSizes) (records : List Record) (i : ℕ) (r : Record) → i < length records → r ≡ get_or records i r → is_pair sizes r.entry.right r.entry.left ≡ true
     → ((file : ℕ) → first_outside file sizes (rows_of records) ≡ first_outside file sizes (rows_of (drop i records)))
     → (file : ℕ) → first_outside file sizes (rows_of records) ≡ first_outside file sizes (rows_of (drop (i + 1) records))
@@ -45,7 +45,7 @@ rows_drop zero records = refl
 rows_drop (suc n) [] = refl
 rows_drop (suc n) (r ∷ records) = rows_drop n records
 
--- those behind the ones that were held
+-- the rows after those that were held
 pub added_slice : (old new items : List Record) (held : ℕ) (rows : List Row) → items ≡ new → rows_of new ≡ rows_of old ++ rows → held ≡ length old
     → rows_of (take (length items - held) (drop held items)) ≡ rows
 added_slice old new items held rows value e h =
@@ -58,7 +58,7 @@ pub as_held : (file : ℕ) (old : List Record) (bytes : List ℕ) (reading : Res
     → IsLexicon file (length (rows_of old)) bytes reading
 as_held file old bytes reading h = subst (λ n. IsLexicon file n bytes reading) (sym (length-map old row_of)) h
 
--- and those that were held
+-- the rows that were held
 pub held_rows : (old new : List Record) (rows : List Row) → rows_of new ≡ rows_of old ++ rows → take (length old) (rows_of new) ≡ rows_of old
 held_rows old new rows e = ap (take (length old)) e ∙ ap (λ n. take n (rows_of old ++ rows)) (sym (length-map old row_of)) ∙ take-append_seam (rows_of old) rows
 
@@ -67,7 +67,7 @@ rows_take zero records = refl
 rows_take (suc n) [] = refl
 rows_take (suc n) (r ∷ records) = ap (λ (rows : List Row). row_of r ∷ rows) (rows_take n records)
 
--- what is left where those that were added are cut off
+-- the rows that remain after the added ones are dropped
 pub entries_back : (sizes : MatrixSizes) (old new back : List Record) (n : ℕ) → back ≡ take n new → n ≡ length old → take (length old) (rows_of new) ≡ rows_of old
     → entries_in sizes back ≡ entries_in sizes old
 entries_back sizes old new back n cut is e =
@@ -134,7 +134,7 @@ fitting_rows file sizes (row ∷ rows) e h =
     let p = within_by (is_pair sizes row.right row.left) (record { file = file; line = row.line; kind = IdOutside }) (first_outside file sizes rows) e in
     All-cons (IsLexiconRow sizes) row rows (record { ids = p.0; some = h.0.0; short = h.0.1 }) (fitting_rows file sizes rows p.1 h.1)
 
--- the entries with one lexicon more
+-- the entries with one more lexicon
 with_lexicon : (file : ℕ) (bytes : List ℕ) (old new : LexiconRows) (skipped : ℕ) → AreLexiconRows old → AddsLexicon file bytes old new skipped → AreLexiconRows new
 with_lexicon file bytes old new skipped h a =
     let r = rows_read lexicon_outcome HasSurface judged_fits file (length old.rows) bytes a.lines a.reads in

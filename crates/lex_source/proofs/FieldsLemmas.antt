@@ -1,16 +1,16 @@
--- The fields of a text, one after another: each rest is shorter, so each text has fields.
+-- The fields of a text, one after another. Each remainder is shorter, so that each text has fields.
 use Rattle.std.proofs.Common.{◌≡◌, ℕ, zero, suc, ◌+◌, ◌<◌, ◌≤◌, Bool, cond, List, [], ◌∷◌, ◌++◌, length, drop, refl, ◌∙◌, ap, subst, arith, Option, Some, None, inl, inr, Bor, length-drop, length-append}
 use Rattle.std.specs.Prelude.{slice_get, option_copied}
 use Rattle.std.specs.List.{list_any, position_or_len, prefix_len, after_first}
 use Rattle.std.proofs.lemmas.Bool.{cases_Bool}
 use Rattle.mj_model.specs.Bytes.{quote, is_comma, is_blank}
-use Rattle.mj_model.specs.Fields.{with_doubled_quotes, without_blanks, IsFieldOf, IsFirstField, AreFields, AreFirstFields, rest_of}
+use Rattle.mj_model.specs.Fields.{with_doubled_quotes, without_leading_blanks, IsFieldOf, IsFirstField, AreFields, AreFirstFields, rest_of}
 use Rattle.mj_model.proofs.FieldLemmas.{a_field}
 use Rattle.lex_source.specs.declared.raw_field.RawField.{RawField}
-use Rattle.lex_source.specs.Spelled.{StandsFirst, StandsAt, IsFieldAt}
-use Rattle.lex_source.proofs.CutLemmas.{any_within}
+use Rattle.lex_source.specs.Spelled.{StartsWithField, HasFieldAt, IsFieldAt}
+use Rattle.lex_source.proofs.SplitLemmas.{any_within}
 
--- ---- a rest is shorter than its text
+-- ---- a remainder is shorter than its text
 
 rest_shorter : (text rest : List ℕ) → Some rest ≡ rest_of text → length rest < length text
 rest_shorter text rest is = elim (cases_Bool (list_any is_comma text)) [
@@ -27,16 +27,16 @@ rest_shorter text rest is = elim (cases_Bool (list_any is_comma text)) [
 
 field_shorter : (text field rest : List ℕ) → IsFieldOf text field (Some rest) → length rest < length text
 field_shorter text field rest (inl plain) = rest_shorter text rest plain.2
-field_shorter text field rest (inr (inl (behind, is, out, r))) =
-    let long : length text ≡ length (quote ∷ (with_doubled_quotes field ++ quote ∷ behind)) = ap (λ (xs : List ℕ). length xs) is in
-    let more : length (with_doubled_quotes field ++ quote ∷ behind) ≡ length (with_doubled_quotes field) + length (quote ∷ behind) = length-append (with_doubled_quotes field) (quote ∷ behind) in
-    let less : length rest < length behind = rest_shorter behind rest r in
+field_shorter text field rest (inr (inl (following, is, out, r))) =
+    let long : length text ≡ length (quote ∷ (with_doubled_quotes field ++ quote ∷ following)) = ap (λ (xs : List ℕ). length xs) is in
+    let more : length (with_doubled_quotes field ++ quote ∷ following) ≡ length (with_doubled_quotes field) + length (quote ∷ following) = length-append (with_doubled_quotes field) (quote ∷ following) in
+    let less : length rest < length following = rest_shorter following rest r in
     omega arith
 field_shorter text field rest (inr (inr (is, r))) = absurd (let e : Some rest ≡ None = r in cc)
 
 first_shorter : (text field rest : List ℕ) → IsFirstField text field (Some rest) → length rest < length text
 first_shorter text field rest is =
-    let less : length rest < length (without_blanks text) = field_shorter (without_blanks text) field rest is in
+    let less : length rest < length (without_leading_blanks text) = field_shorter (without_leading_blanks text) field rest is in
     omega (arith, length-drop (prefix_len is_blank text) text)
 
 -- ---- each text has fields
@@ -57,7 +57,7 @@ fields_after n within text field (Some rest) short is =
 fields_within : (n : ℕ) (text : List ℕ) → length text < n → (fields : List (List ℕ)) × AreFields text fields
 fields_within zero text short = absurd (omega arith)
 fields_within (suc n) text short =
-    let f = a_field (without_blanks text) in
+    let f = a_field (without_leading_blanks text) in
     let more = fields_after n (λ shorter less. fields_within n shorter less) text f.0 f.1 (omega arith) f.2 in
     (f.0 ∷ more.0, more.1)
 
@@ -65,7 +65,7 @@ fields_within (suc n) text short =
 pub fields_from : (text field : List ℕ) (rest : Option (List ℕ)) → IsFirstField text field rest → (more : List (List ℕ)) × AreFields text (field ∷ more)
 fields_from text field rest is = fields_after (length text) (λ shorter less. fields_within (length text) shorter less) text field rest (omega arith) is
 
--- ---- first fields and those behind them
+-- ---- first fields and those after them
 
 pub first_more : (text : List ℕ) (firsts : List (List ℕ)) (at field next : List ℕ) → AreFirstFields text firsts at → IsFirstField at field (Some next) → AreFirstFields text (firsts ++ field ∷ []) next
 first_more text [] at field next before is = (next, subst (λ (xs : List ℕ). IsFirstField xs field (Some next)) before is, refl)
@@ -89,11 +89,11 @@ get_at (x ∷ xs) y ys (suc i) h = get_at xs y ys i (omega arith)
 
 -- ---- a field by its number
 
-pub at_start : (text raw : List ℕ) (quoted : Bool) (rest : Option (List ℕ)) → StandsFirst (IsFirstField text) raw quoted rest → StandsAt text 0 raw quoted rest
+pub at_start : (text raw : List ℕ) (quoted : Bool) (rest : Option (List ℕ)) → StartsWithField (IsFirstField text) raw quoted rest → HasFieldAt text 0 raw quoted rest
 at_start text raw quoted rest here = record { firsts = []; at = text; before = refl; count = refl; here = here }
 
 pub at_next : (text raw : List ℕ) (quoted : Bool) (rest : Option (Bor (List ℕ))) (next : Bor (List ℕ)) (raw' : List ℕ) (quoted' : Bool) (rest' : Option (List ℕ)) (i : ℕ)
-    → StandsAt text i raw quoted (option_copied rest) → rest ≡ Some next → StandsFirst (IsFirstField next.now) raw' quoted' rest' → StandsAt text (i + 1) raw' quoted' rest'
+    → HasFieldAt text i raw quoted (option_copied rest) → rest ≡ Some next → StartsWithField (IsFirstField next.now) raw' quoted' rest' → HasFieldAt text (i + 1) raw' quoted' rest'
 at_next text raw quoted rest next raw' quoted' rest' i s is more =
     let first : IsFirstField s.at s.here.field (Some next.now) = subst (λ (r : Option (Bor (List ℕ))). IsFirstField s.at s.here.field (option_copied r)) is s.here.first in
     let count : length s.firsts ≡ i = s.count in
@@ -105,7 +105,7 @@ at_next text raw quoted rest next raw' quoted' rest' i s is more =
       here = more;
     }
 
-pub no_field : (text raw : List ℕ) (quoted : Bool) (rest : Option (Bor (List ℕ))) (i n : ℕ) → StandsAt text i raw quoted (option_copied rest) → rest ≡ None → i < n → IsFieldAt text n None
+pub no_field : (text raw : List ℕ) (quoted : Bool) (rest : Option (Bor (List ℕ))) (i n : ℕ) → HasFieldAt text i raw quoted (option_copied rest) → rest ≡ None → i < n → IsFieldAt text n None
 no_field text raw quoted rest i n s is low =
     let first : IsFirstField s.at s.here.field None = subst (λ (r : Option (Bor (List ℕ))). IsFirstField s.at s.here.field (option_copied r)) is s.here.first in
     let count : length s.firsts ≡ i = s.count in
@@ -115,7 +115,7 @@ no_field text raw quoted rest i n s is low =
       here = get_past (s.firsts ++ s.here.field ∷ []) n (omega (arith, length-append s.firsts (s.here.field ∷ [])));
     }
 
-pub a_field_at : (text : List ℕ) (found : RawField) (n : ℕ) → StandsAt text n found.raw.now found.quoted (option_copied found.rest) → IsFieldAt text n (Some found)
+pub a_field_at : (text : List ℕ) (found : RawField) (n : ℕ) → HasFieldAt text n found.raw.now found.quoted (option_copied found.rest) → IsFieldAt text n (Some found)
 a_field_at text found n s =
     let more = fields_from s.at s.here.field (option_copied found.rest) s.here.first in
     record {
@@ -124,12 +124,12 @@ a_field_at text found n s =
       here = (s.here.field, s.here.spelled, get_at s.firsts s.here.field more.0 n s.count);
     }
 
--- ---- what stands first with its rest, or without
+-- ---- the first field, with or without a remainder
 
-pub with_rest : (IsFirst : List ℕ → Option (List ℕ) → Type 0) (raw : List ℕ) (quoted : Bool) (rest : Option (Bor (List ℕ))) (next : Bor (List ℕ)) → StandsFirst IsFirst raw quoted (option_copied rest) → rest ≡ Some next
-    → StandsFirst IsFirst raw quoted (Some next.now)
-with_rest IsFirst raw quoted rest next s is = subst (λ (r : Option (Bor (List ℕ))). StandsFirst IsFirst raw quoted (option_copied r)) is s
+pub with_rest : (IsFirst : List ℕ → Option (List ℕ) → Type 0) (raw : List ℕ) (quoted : Bool) (rest : Option (Bor (List ℕ))) (next : Bor (List ℕ)) → StartsWithField IsFirst raw quoted (option_copied rest) → rest ≡ Some next
+    → StartsWithField IsFirst raw quoted (Some next.now)
+with_rest IsFirst raw quoted rest next s is = subst (λ (r : Option (Bor (List ℕ))). StartsWithField IsFirst raw quoted (option_copied r)) is s
 
-pub without_rest : (IsFirst : List ℕ → Option (List ℕ) → Type 0) (raw : List ℕ) (quoted : Bool) (rest : Option (Bor (List ℕ))) → StandsFirst IsFirst raw quoted (option_copied rest) → rest ≡ None
-    → StandsFirst IsFirst raw quoted None
-without_rest IsFirst raw quoted rest s is = subst (λ (r : Option (Bor (List ℕ))). StandsFirst IsFirst raw quoted (option_copied r)) is s
+pub without_rest : (IsFirst : List ℕ → Option (List ℕ) → Type 0) (raw : List ℕ) (quoted : Bool) (rest : Option (Bor (List ℕ))) → StartsWithField IsFirst raw quoted (option_copied rest) → rest ≡ None
+    → StartsWithField IsFirst raw quoted None
+without_rest IsFirst raw quoted rest s is = subst (λ (r : Option (Bor (List ℕ))). StartsWithField IsFirst raw quoted (option_copied r)) is s

@@ -1,4 +1,5 @@
--- A source of a lexicon's form read line by line: each line has an outcome, and a line's step takes the lines read so far one further.
+-- Reading of a lexicon line by line: each line has an outcome, and reading a line extends the lines
+-- read so far by one.
 use Rattle.std.proofs.Common.{◌≡◌, ℕ, suc, ◌+◌, ◌<◌, Bool, false, cond, ltb, List, [], ◌∷◌, ◌++◌, length, refl, sym, ◌∙◌, ap, subst, arith, Option, Some, None, inl, inr, length-append, append_assoc}
 use Rattle.std.specs.Prelude.{count_by, Ok, Err}
 use Rattle.std.specs.List.{enumerate_from}
@@ -13,10 +14,10 @@ use Rattle.mj_model.specs.declared.source_fault.SourceFault.{SourceFault}
 use Rattle.mj_model.specs.declared.source_fault.SourceKind.{SourceKind}
 use Rattle.mj_model.specs.declared.source_fault.SourceKind.TheVariants.{NotUtf8, TooFewFields, TooManyEntries}
 use Rattle.mj_model.specs.Lines.{is_blank_line, numbered_lines, source_lines}
-use Rattle.mj_model.specs.Fields.{AreFields, without_blanks}
-use Rattle.mj_model.specs.Lexicon.{Row, Parts, Outcome, Blank, Skipped, Refused, Accepted, IsOutcome, is_blank, not_text, too_few, has_parts, AreOutcomes, first_refused, accepted_row, accepted_rows, is_skipped, reading_unless, ReadsAs, Reading}
+use Rattle.mj_model.specs.Fields.{AreFields, without_leading_blanks}
+use Rattle.mj_model.specs.Lexicon.{Row, Parts, Outcome, Blank, Skipped, Refused, Accepted, IsOutcome, is_blank, not_text, too_few, has_parts, AreOutcomes, first_rejected, accepted_row, accepted_rows, is_skipped, reading_unless, ReadsAs, Reading}
 use Rattle.mj_model.proofs.FieldLemmas.{a_field}
-use Rattle.lex_source.specs.Steps.{IsTaken, IsRefusedLine, IsReadUpTo}
+use Rattle.lex_source.specs.Steps.{IsReadLine, IsRejectedLine, IsReadUpTo}
 use Rattle.lex_source.proofs.FieldsLemmas.{fields_from}
 
 -- ---- each line has an outcome
@@ -39,7 +40,7 @@ an_outcome judge number line = elim (cases_Bool (is_blank_line line)) [
   | inl blank ↦ (Blank, is_blank blank)
   | inr some ↦ elim (cases_Bool (is_utf8 line)) [
     | inl text ↦
-        let f = a_field (without_blanks line) in
+        let f = a_field (without_leading_blanks line) in
         let more = fields_from line f.0 f.1 f.2 in of_fields judge number line (f.0 ∷ more.0) some (IsUtf8-from_is_utf8 line text) more.1
     | inr no_text ↦ (Refused NotUtf8, not_text some (λ utf8. both_ways (is_utf8 line) no_text (is_utf8-from_IsUtf8 line utf8)))
   ]
@@ -60,32 +61,32 @@ outcomes-append judge [] ys (o ∷ os) ps a b = absurd a
 outcomes-append judge (x ∷ xs) ys [] ps a b = absurd a
 outcomes-append judge (x ∷ xs) ys (o ∷ os) ps a b = (a.0, outcomes-append judge xs ys os ps a.1 b)
 
--- where nothing is refused, the first refused line is among those behind
-refused-append : (file number held : ℕ) (os ps : List Outcome) → first_refused file number held os ≡ None
-    → first_refused file number held (os ++ ps) ≡ first_refused file (number + length os) (held + length (accepted_rows os)) ps
-refused-append file number held [] ps none =
-    ap (λ (n : ℕ). first_refused file n held ps) (let e : number ≡ number + 0 = omega arith in e) ∙ ap (λ (n : ℕ). first_refused file (number + 0) n ps) (let e : held ≡ held + 0 = omega arith in e)
-refused-append file number held (Blank ∷ os) ps none =
-    refused-append file (number + 1) held os ps none ∙ ap (λ (n : ℕ). first_refused file n (held + length (accepted_rows os)) ps) (let e : number + 1 + length os ≡ number + length (Blank ∷ os) = omega arith in e)
-refused-append file number held (Skipped ∷ os) ps none =
-    refused-append file (number + 1) held os ps none ∙ ap (λ (n : ℕ). first_refused file n (held + length (accepted_rows os)) ps) (let e : number + 1 + length os ≡ number + length (Skipped ∷ os) = omega arith in e)
-refused-append file number held (Refused kind ∷ os) ps none = absurd (cc)
-refused-append file number held (Accepted row ∷ os) ps none =
+-- if none of these is rejected, the first rejected line is among the following ones
+rejected-append : (file number held : ℕ) (os ps : List Outcome) → first_rejected file number held os ≡ None
+    → first_rejected file number held (os ++ ps) ≡ first_rejected file (number + length os) (held + length (accepted_rows os)) ps
+rejected-append file number held [] ps none =
+    ap (λ (n : ℕ). first_rejected file n held ps) (let e : number ≡ number + 0 = omega arith in e) ∙ ap (λ (n : ℕ). first_rejected file (number + 0) n ps) (let e : held ≡ held + 0 = omega arith in e)
+rejected-append file number held (Blank ∷ os) ps none =
+    rejected-append file (number + 1) held os ps none ∙ ap (λ (n : ℕ). first_rejected file n (held + length (accepted_rows os)) ps) (let e : number + 1 + length os ≡ number + length (Blank ∷ os) = omega arith in e)
+rejected-append file number held (Skipped ∷ os) ps none =
+    rejected-append file (number + 1) held os ps none ∙ ap (λ (n : ℕ). first_rejected file n (held + length (accepted_rows os)) ps) (let e : number + 1 + length os ≡ number + length (Skipped ∷ os) = omega arith in e)
+rejected-append file number held (Refused kind ∷ os) ps none = absurd (cc)
+rejected-append file number held (Accepted row ∷ os) ps none =
     let there : Option SourceFault = Some (record { file = file; line = number; kind = TooManyEntries }) in
     elim (cases_Bool (ltb held ENTRIES_MAX)) [
       | inl fits ↦
-          let rest : first_refused file (number + 1) (held + 1) os ≡ None = sym (cond-true (ltb held ENTRIES_MAX) (first_refused file (number + 1) (held + 1) os) there fits) ∙ none in
-          cond-true (ltb held ENTRIES_MAX) (first_refused file (number + 1) (held + 1) (os ++ ps)) there fits
-          ∙ refused-append file (number + 1) (held + 1) os ps rest
-          ∙ ap (λ (n : ℕ). first_refused file n (held + 1 + length (accepted_rows os)) ps) (let e : number + 1 + length os ≡ number + length (Accepted row ∷ os) = omega arith in e)
-          ∙ ap (λ (n : ℕ). first_refused file (number + length (Accepted row ∷ os)) n ps) (let e : held + 1 + length (accepted_rows os) ≡ held + suc (length (accepted_rows os)) = omega arith in e)
+          let rest : first_rejected file (number + 1) (held + 1) os ≡ None = sym (cond-true (ltb held ENTRIES_MAX) (first_rejected file (number + 1) (held + 1) os) there fits) ∙ none in
+          cond-true (ltb held ENTRIES_MAX) (first_rejected file (number + 1) (held + 1) (os ++ ps)) there fits
+          ∙ rejected-append file (number + 1) (held + 1) os ps rest
+          ∙ ap (λ (n : ℕ). first_rejected file n (held + 1 + length (accepted_rows os)) ps) (let e : number + 1 + length os ≡ number + length (Accepted row ∷ os) = omega arith in e)
+          ∙ ap (λ (n : ℕ). first_rejected file (number + length (Accepted row ∷ os)) n ps) (let e : held + 1 + length (accepted_rows os) ≡ held + suc (length (accepted_rows os)) = omega arith in e)
       | inr full ↦
-          let e : there ≡ None = sym (cond-false (ltb held ENTRIES_MAX) (first_refused file (number + 1) (held + 1) os) there full) ∙ none in
+          let e : there ≡ None = sym (cond-false (ltb held ENTRIES_MAX) (first_rejected file (number + 1) (held + 1) os) there full) ∙ none in
           absurd (cc)
     ]
 
--- a refused line is refused whatever follows it
-refused_first : (file number held : ℕ) (o : Outcome) (ps : List Outcome) (fault : SourceFault) → first_refused file number held (o ∷ []) ≡ Some fault → first_refused file number held (o ∷ ps) ≡ Some fault
+-- a rejected line is rejected whatever follows it
+refused_first : (file number held : ℕ) (o : Outcome) (ps : List Outcome) (fault : SourceFault) → first_rejected file number held (o ∷ []) ≡ Some fault → first_rejected file number held (o ∷ ps) ≡ Some fault
 refused_first file number held Blank ps fault is = absurd (cc)
 refused_first file number held Skipped ps fault is = absurd (cc)
 refused_first file number held (Refused kind) ps fault is = is
@@ -94,7 +95,7 @@ refused_first file number held (Accepted row) ps fault is =
     elim (cases_Bool (ltb held ENTRIES_MAX)) [
       | inl fits ↦ let e : None ≡ Some fault = sym (cond-true (ltb held ENTRIES_MAX) None there fits) ∙ is in absurd (cc)
       | inr full ↦
-          cond-false (ltb held ENTRIES_MAX) (first_refused file (number + 1) (held + 1) ps) there full
+          cond-false (ltb held ENTRIES_MAX) (first_rejected file (number + 1) (held + 1) ps) there full
           ∙ sym (cond-false (ltb held ENTRIES_MAX) None there full) ∙ is
     ]
 
@@ -137,7 +138,7 @@ skipped_below judge held all number line left now rows skipped is r =
     omega (arith, count_by-le-length is_skipped r.outcomes)
 
 pub line_taken : (judge : ℕ → Parts → Outcome) (held : ℕ) (all : List (ℕ × List ℕ)) (number : ℕ) (line : List ℕ) (left now : List (ℕ × List ℕ)) (rows more : List Row) (skipped held_now : ℕ) (counts : Bool)
-    → now ≡ (number, line) ∷ left → IsReadUpTo judge held all now rows skipped → held_now ≡ held + length rows → IsTaken judge number line held_now counts more
+    → now ≡ (number, line) ∷ left → IsReadUpTo judge held all now rows skipped → held_now ≡ held + length rows → IsReadLine judge number line held_now counts more
     → IsReadUpTo judge held all left (rows ++ more) (skipped + cond counts 1 0)
 line_taken judge held all number line left now rows more skipped held_now counts is r room t =
     let n = line_number (1 + length r.outcomes) number line left r.rest (sym is ∙ r.numbers) in
@@ -149,9 +150,9 @@ line_taken judge held all number line left now rows more skipped held_now counts
       parts = r.parts ∙ ap (λ (xs : List (ℕ × List ℕ)). r.lines ++ xs) is ∙ sym (append_assoc r.lines (here ∷ []) left);
       are = outcomes-append judge r.lines (here ∷ []) r.outcomes (t.outcome ∷ []) r.are (t.is, tt);
       none = λ file.
-          refused-append file 1 held r.outcomes (t.outcome ∷ []) (r.none file)
-          ∙ ap (λ (k : ℕ). first_refused file k (held + length (accepted_rows r.outcomes)) (t.outcome ∷ [])) (sym n.0)
-          ∙ ap (λ (k : ℕ). first_refused file number k (t.outcome ∷ [])) (sym (room ∙ rows_then)) ∙ t.fits file;
+          rejected-append file 1 held r.outcomes (t.outcome ∷ []) (r.none file)
+          ∙ ap (λ (k : ℕ). first_rejected file k (held + length (accepted_rows r.outcomes)) (t.outcome ∷ [])) (sym n.0)
+          ∙ ap (λ (k : ℕ). first_rejected file number k (t.outcome ∷ [])) (sym (room ∙ rows_then)) ∙ t.fits file;
       rows_are = ap (λ (xs : List Row). xs ++ more) r.rows_are ∙ ap (λ (xs : List Row). accepted_rows r.outcomes ++ xs) t.appended ∙ sym (filter_map-append accepted_row r.outcomes (t.outcome ∷ []));
       skipped_are = ap (λ (k : ℕ). k + cond counts 1 0) r.skipped_are ∙ ap (λ (b : Bool). count_by is_skipped r.outcomes + cond b 1 0) t.counted
           ∙ sym (sum_by_push (λ o. cond (is_skipped o) 1 0) r.outcomes t.outcome);
@@ -160,7 +161,7 @@ line_taken judge held all number line left now rows more skipped held_now counts
     }
 
 pub line_refused : (judge : ℕ → Parts → Outcome) (file held : ℕ) (bytes : List ℕ) (number : ℕ) (line : List ℕ) (left now : List (ℕ × List ℕ)) (rows : List Row) (skipped held_now : ℕ) (kind : SourceKind)
-    → now ≡ (number, line) ∷ left → IsReadUpTo judge held (numbered_lines bytes) now rows skipped → held_now ≡ held + length rows → IsRefusedLine judge number line held_now kind
+    → now ≡ (number, line) ∷ left → IsReadUpTo judge held (numbered_lines bytes) now rows skipped → held_now ≡ held + length rows → IsRejectedLine judge number line held_now kind
     → ReadsAs judge file held bytes (Err (record { file = file; line = number; kind = kind }))
 line_refused judge file held bytes number line left now rows skipped held_now kind is r room t =
     let n = line_number (1 + length r.outcomes) number line left r.rest (sym is ∙ r.numbers) in
@@ -169,11 +170,11 @@ line_refused judge file held bytes number line left now rows skipped held_now ki
     let fault : SourceFault = record { file = file; line = number; kind = kind } in
     let rows_then : held + length rows ≡ held + length (accepted_rows r.outcomes) = ap (λ (xs : List Row). held + length xs) r.rows_are in
     let all : List Outcome = r.outcomes ++ t.outcome ∷ later.0 in
-    let first : first_refused file 1 held all ≡ Some fault =
-    refused-append file 1 held r.outcomes (t.outcome ∷ later.0) (r.none file)
-    ∙ ap (λ (k : ℕ). first_refused file k (held + length (accepted_rows r.outcomes)) (t.outcome ∷ later.0)) (sym n.0)
-    ∙ ap (λ (k : ℕ). first_refused file number k (t.outcome ∷ later.0)) (sym (room ∙ rows_then))
-    ∙ refused_first file number held_now t.outcome later.0 fault (t.refused file) in
+    let first : first_rejected file 1 held all ≡ Some fault =
+    rejected-append file 1 held r.outcomes (t.outcome ∷ later.0) (r.none file)
+    ∙ ap (λ (k : ℕ). first_rejected file k (held + length (accepted_rows r.outcomes)) (t.outcome ∷ later.0)) (sym n.0)
+    ∙ ap (λ (k : ℕ). first_rejected file number k (t.outcome ∷ later.0)) (sym (room ∙ rows_then))
+    ∙ refused_first file number held_now t.outcome later.0 fault (t.rejected file) in
     let are : AreOutcomes judge (r.lines ++ here ∷ left) all = outcomes-append judge r.lines (here ∷ left) r.outcomes (t.outcome ∷ later.0) r.are (t.is, later.1) in (
       all,
       subst (λ (ls : List (ℕ × List ℕ)). AreOutcomes judge ls all) (sym (r.parts ∙ ap (λ (xs : List (ℕ × List ℕ)). r.lines ++ xs) is)) are,

@@ -1,4 +1,4 @@
-pub mod CutLemmas
+pub mod SplitLemmas
 pub mod LineLemmas
 pub mod QuoteLemmas
 pub mod FieldLemmas
@@ -9,5 +9,5 @@ pub mod LexiconLemmas
 pub mod AppendLemmas
 pub mod WordLemmas
 pub mod SortedRows
-pub mod HeadLemmas
+pub mod PrefixLemmas
 pub mod EntryLemmas

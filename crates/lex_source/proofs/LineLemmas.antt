@@ -1,4 +1,4 @@
--- The first line of a source and those behind it.
+-- The first line of a source, and those after it.
 use Rattle.std.proofs.Common.{◌≡◌, ℕ, ◌<◌, Bool, false, List, [], ◌∷◌, length, refl, sym, ◌∙◌, ap, arith, inl, inr}
 use Rattle.std.specs.Prelude.{map}
 use Rattle.std.specs.List.{list_any, position_or_len, after_first, slice_split, onto_first}
@@ -6,10 +6,10 @@ use Rattle.std.proofs.lemmas.Bool.{cases_Bool, or_parts}
 use Rattle.std.proofs.lemmas.List.Splits.{slice_split-cons_yes, slice_split-cons_no, slice_split_first}
 use Rattle.mj_model.specs.Bytes.{is_line_feed}
 use Rattle.mj_model.specs.Lines.{source_lines, pieces, without_last_empty, without_return}
-use Rattle.lex_source.specs.Cuts.{IsCut}
-use Rattle.lex_source.proofs.CutLemmas.{any_within}
+use Rattle.lex_source.specs.Splits.{IsSplit}
+use Rattle.lex_source.proofs.SplitLemmas.{any_within}
 
--- a list is cut into a piece and more
+-- a list is split into a piece and the remainder
 record IsPieces (parts : List (List ℕ)) : Type 0 where
   first : List ℕ
   more : List (List ℕ)
@@ -34,16 +34,16 @@ before_pieces : (piece : List ℕ) (parts : List (List ℕ)) → IsPieces parts 
 before_pieces piece parts p =
     ap (λ (ps : List (List ℕ)). without_last_empty (piece ∷ ps)) p.is ∙ before_more piece p.first p.more ∙ sym (ap (λ (ps : List (List ℕ)). piece ∷ without_last_empty ps) p.is)
 
-pub cut_lines : (bytes before behind line : List ℕ) → IsCut is_line_feed bytes before behind → line ≡ without_return before → source_lines bytes ≡ line ∷ source_lines behind
-cut_lines bytes before behind line cut is =
+pub cut_lines : (bytes before following line : List ℕ) → IsSplit is_line_feed bytes before following → line ≡ without_return before → source_lines bytes ≡ line ∷ source_lines following
+cut_lines bytes before following line cut is =
     let in' : position_or_len is_line_feed bytes < length bytes = any_within is_line_feed bytes cut.found in
-    let e : slice_split is_line_feed bytes ≡ before ∷ slice_split is_line_feed behind =
+    let e : slice_split is_line_feed bytes ≡ before ∷ slice_split is_line_feed following =
     slice_split_first is_line_feed bytes 0 in' ∙ sym (ap (λ (xs : List ℕ). xs ∷ slice_split is_line_feed (after_first is_line_feed bytes)) cut.before_is)
     ∙ sym (ap (λ (xs : List ℕ). before ∷ slice_split is_line_feed xs) cut.behind_is) in
-    let p : pieces bytes ≡ before ∷ pieces behind = ap without_last_empty e ∙ before_pieces before (slice_split is_line_feed behind) (split_pieces is_line_feed behind) in
-    ap (map without_return) p ∙ ap (λ (l : List ℕ). l ∷ source_lines behind) (sym is)
+    let p : pieces bytes ≡ before ∷ pieces following = ap without_last_empty e ∙ before_pieces before (slice_split is_line_feed following) (split_pieces is_line_feed following) in
+    ap (map without_return) p ∙ ap (λ (l : List ℕ). l ∷ source_lines following) (sym is)
 
--- without a line feed all is one part
+-- without a byte that passes, the bytes are a single part
 one_part : (test : ℕ → Bool) (bytes : List ℕ) → list_any test bytes ≡ false → slice_split test bytes ≡ bytes ∷ []
 one_part test [] h = refl
 one_part test (c ∷ cs) h =

@@ -1,4 +1,5 @@
--- A field between quotes is a number where its bytes are: one with a quote in it is none.
+-- The number of a quoted field is the number of its bytes, and a field with a quote in it is no
+-- number.
 use Rattle.std.proofs.Common.{◌≡◌, ℕ, ◌+◌, ◌-◌, ◌<◌, ◌≤◌, Bool, true, false, cond, ◌==◌, ◌&&◌, List, [], ◌∷◌, length, take, drop, get_or, reverse, refl, sym, ◌∙◌, ap, arith, Option, Some, None, inl, inr, length-drop}
 use Rattle.std.specs.Prelude.{ℤ, pos, neg_ℤ, option_map, ◌||◌, nat_lt}
 use Rattle.std.specs.List.{list_any, suffix_len, prefix_len}
@@ -10,8 +11,8 @@ use Rattle.std.proofs.lemmas.List.Sums.{prefix_len_passes, suffix_len-le-length}
 use Rattle.std.proofs.lemmas.List.Folds.{list_any_none, list_any-append}
 use Rattle.mj_model.specs.Bytes.{quote, is_quote, is_blank, minus, plus}
 use Rattle.mj_model.specs.Fields.{with_doubled_quotes}
-use Rattle.mj_model.specs.Numbers.{number, signed_number, unsigned_number, without_blanks_behind, digits_value}
-use Rattle.lex_source.specs.Spelled.{IsSpelled}
+use Rattle.mj_model.specs.Numbers.{number, signed_number, unsigned_number, without_trailing_blanks, digits_value}
+use Rattle.lex_source.specs.Spelled.{IsRawForm}
 use Rattle.lex_source.proofs.QuoteLemmas.{doubled_plain, no_left}
 
 quote_no_digit : (c : ℕ) → is_quote c ≡ true → is_ascii_digit c ≡ false
@@ -27,7 +28,7 @@ no_digits (c ∷ cs) h = elim (or_cases (is_quote c) (list_any is_quote cs) h) [
 no_unsigned : (text : List ℕ) → list_any is_quote text ≡ true → unsigned_number text ≡ None
 no_unsigned text h = cond-false (nat_lt 0 (length text) && all_ascii_digits text) (Some (digits_value text)) None (and_right (nat_lt 0 (length text)) (all_ascii_digits text) (no_digits text h))
 
--- behind a sign
+-- after a sign
 behind_sign : (c sign : ℕ) (cs : List ℕ) → (c == sign) ≡ true → is_quote sign ≡ false → list_any is_quote (c ∷ cs) ≡ true → list_any is_quote cs ≡ true
 behind_sign c sign cs is other h = elim (or_cases (is_quote c) (list_any is_quote cs) h) [
   | inl here ↦ absurd (both_ways (is_quote c) (ap is_quote (eqb-true c sign is) ∙ other) here)
@@ -73,7 +74,7 @@ no_number text h =
     let n = length text - suffix_len is_blank text in
     let e : (list_any is_quote (take n text) || list_any is_quote (drop n text)) ≡ true =
     sym (list_any-append is_quote (take n text) (drop n text)) ∙ ap (list_any is_quote) (take-append-drop n text) ∙ h in
-    no_signed (without_blanks_behind text) (elim (or_cases (list_any is_quote (take n text)) (list_any is_quote (drop n text)) e) [
+    no_signed (without_trailing_blanks text) (elim (or_cases (list_any is_quote (take n text)) (list_any is_quote (drop n text)) e) [
       | inl there ↦ there
       | inr blank_part ↦ absurd (both_ways (list_any is_quote (drop n text)) (blanks_no_quote text) blank_part)
     ])
@@ -87,7 +88,7 @@ number_doubled field = elim (cases_Bool (list_any is_quote field)) [
   | inr lacks ↦ ap number (doubled_plain field lacks)
 ]
 
--- a field is the number that its bytes are
-pub number_spelled : (raw : List ℕ) (quoted : Bool) (field : List ℕ) → IsSpelled raw quoted field → number raw ≡ number field
+-- the number of a field is the number of its bytes
+pub number_spelled : (raw : List ℕ) (quoted : Bool) (field : List ℕ) → IsRawForm raw quoted field → number raw ≡ number field
 number_spelled raw true field is = ap number is ∙ number_doubled field
 number_spelled raw false field is = ap number is

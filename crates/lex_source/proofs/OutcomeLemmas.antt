@@ -1,4 +1,4 @@
--- What comes of a line, from where its parts stand.
+-- The outcome of a line, from the spelling of its parts.
 use Rattle.std.proofs.Common.{◌≡◌, ℕ, Bool, true, false, cond, ◌==◌, ◌&&◌, List, [], ◌∷◌, length, refl, sym, ◌∙◌, ap, subst, arith, Option, Some, None, ◌⊎◌, inl, inr}
 use Rattle.std.specs.Prelude.{ℤ, pos, neg_ℤ, option_map, option_and_then, int_le, nat_abs}
 use Rattle.std.proofs.lemmas.Bool.{cases_eq, cond-true, cond-false, ne_eqb}
@@ -11,31 +11,31 @@ use Rattle.mj_model.specs.Fields.{with_doubled_quotes, AreFields, AreFirstFields
 use Rattle.mj_model.specs.Numbers.{number, context_id, cost}
 use Rattle.mj_model.specs.Lexicon.{Row, Parts, Outcome, Skipped, Refused, Accepted, IsOutcome, too_few, has_parts, row_from, lexicon_outcome, accept_short}
 use Rattle.lex_source.specs.declared.parts.LineParts.{LineParts}
-use Rattle.lex_source.specs.Spelled.{IsSpelled, HasFewFields, HasEntry}
+use Rattle.lex_source.specs.Spelled.{IsRawForm, HasFewFields, HasEntry}
 use Rattle.lex_source.specs.Steps.{accept_any, row_outcome}
 use Rattle.mj_model.proofs.FieldLemmas.{doubled_quote, doubled_other}
 use Rattle.lex_source.proofs.NumberLemmas.{number_spelled}
 
-pub id_spelled : (raw : List ℕ) (quoted : Bool) (field : List ℕ) → IsSpelled raw quoted field → context_id raw ≡ context_id field
+pub id_spelled : (raw : List ℕ) (quoted : Bool) (field : List ℕ) → IsRawForm raw quoted field → context_id raw ≡ context_id field
 id_spelled raw quoted field is =
     ap (λ (n : Option ℤ). option_map nat_abs (option_and_then (λ z. cond (int_le (pos 0) z && int_le z (pos 65535)) (Some z) None) n)) (number_spelled raw quoted field is)
 
-pub cost_spelled : (raw : List ℕ) (quoted : Bool) (field : List ℕ) → IsSpelled raw quoted field → cost raw ≡ cost field
+pub cost_spelled : (raw : List ℕ) (quoted : Bool) (field : List ℕ) → IsRawForm raw quoted field → cost raw ≡ cost field
 cost_spelled raw quoted field is =
     ap (λ (n : Option ℤ). option_and_then (λ z. cond (int_le (neg_ℤ (pos 32768)) z && int_le z (pos 32767)) (Some z) None) n) (number_spelled raw quoted field is)
 
--- a row from what its numbers are
+-- a row from its numbers
 row_of_numbers : ℕ → Parts → Option ℕ → Option ℕ → Option ℤ → Option Row
 row_of_numbers line parts left right price =
     option_and_then (λ l. option_and_then (λ r. option_map (λ p.
     record { line = line; surface = parts.surface; left = l; right = r; cost = p; feature = parts.feature })
     price) right) left
 
--- the context id that a field's bytes are
-pub id_read : (bytes raw : List ℕ) (quoted : Bool) (field : List ℕ) (found : Option ℕ) → IsSpelled raw quoted field → bytes ≡ raw → found ≡ context_id bytes → context_id field ≡ found
+-- the context id of a field is that of its bytes
+pub id_read : (bytes raw : List ℕ) (quoted : Bool) (field : List ℕ) (found : Option ℕ) → IsRawForm raw quoted field → bytes ≡ raw → found ≡ context_id bytes → context_id field ≡ found
 id_read bytes raw quoted field found is same e = sym (id_spelled raw quoted field is) ∙ ap context_id (sym same) ∙ sym e
 
-pub cost_read : (bytes raw : List ℕ) (quoted : Bool) (field : List ℕ) (found : Option ℤ) → IsSpelled raw quoted field → bytes ≡ raw → found ≡ cost bytes → cost field ≡ found
+pub cost_read : (bytes raw : List ℕ) (quoted : Bool) (field : List ℕ) (found : Option ℤ) → IsRawForm raw quoted field → bytes ≡ raw → found ≡ cost bytes → cost field ≡ found
 cost_read bytes raw quoted field found is same e = sym (cost_spelled raw quoted field is) ∙ ap cost (sym same) ∙ sym e
 
 row_is : (line : ℕ) (parts : Parts) (left right : Option ℕ) (price : Option ℤ) → context_id parts.left ≡ left → context_id parts.right ≡ right → cost parts.cost ≡ price
@@ -62,7 +62,7 @@ pub a_row : (line : ℕ) (parts : Parts) (left right : ℕ) (price : ℤ) → co
 unfolding row_of_numbers
 a_row line parts left right price l r p = row_is line parts (Some left) (Some right) (Some price) l r p
 
--- a field is empty where its bytes are
+-- a field is empty if its bytes are
 doubled_some : (c : ℕ) (cs : List ℕ) → (length (with_doubled_quotes (c ∷ cs)) == 0) ≡ false
 doubled_some c cs = elim (cases_eq c quote) [
   | inl q ↦
@@ -77,20 +77,20 @@ doubled_empty : (field : List ℕ) → (length (with_doubled_quotes field) == 0)
 doubled_empty [] = refl
 doubled_empty (c ∷ cs) = doubled_some c cs ∙ sym (ne_eqb (length (c ∷ cs)) 0 (λ h. omega arith))
 
-pub spelled_empty : (raw : List ℕ) (quoted : Bool) (field : List ℕ) → IsSpelled raw quoted field → (length raw == 0) ≡ (length field == 0)
+pub spelled_empty : (raw : List ℕ) (quoted : Bool) (field : List ℕ) → IsRawForm raw quoted field → (length raw == 0) ≡ (length field == 0)
 spelled_empty raw true field is = ap (λ (xs : List ℕ). length xs == 0) is ∙ doubled_empty field
 spelled_empty raw false field is = ap (λ (xs : List ℕ). length xs == 0) is
 
-pub is_skipped_line : (line : ℕ) (parts : Parts) (raw : List ℕ) (quoted : Bool) → IsSpelled raw quoted parts.surface → (length raw == 0) ≡ true → lexicon_outcome line parts ≡ Skipped
+pub is_skipped_line : (line : ℕ) (parts : Parts) (raw : List ℕ) (quoted : Bool) → IsRawForm raw quoted parts.surface → (length raw == 0) ≡ true → lexicon_outcome line parts ≡ Skipped
 is_skipped_line line parts raw quoted is empty =
     cond-true (length parts.surface == 0) Skipped (accept_short (row_from line parts)) (sym (spelled_empty raw quoted parts.surface is) ∙ empty)
 
-pub is_judged_line : (line : ℕ) (parts : Parts) (raw : List ℕ) (quoted : Bool) → IsSpelled raw quoted parts.surface → (length raw == 0) ≡ false
+pub is_judged_line : (line : ℕ) (parts : Parts) (raw : List ℕ) (quoted : Bool) → IsRawForm raw quoted parts.surface → (length raw == 0) ≡ false
     → lexicon_outcome line parts ≡ accept_short (row_from line parts)
 is_judged_line line parts raw quoted is some =
     cond-false (length parts.surface == 0) Skipped (accept_short (row_from line parts)) (sym (spelled_empty raw quoted parts.surface is) ∙ some)
 
-pub judged_refusal : (line : ℕ) (parts : Parts) (raw : List ℕ) (quoted : Bool) (kind : SourceKind) → IsSpelled raw quoted parts.surface → (length raw == 0) ≡ false
+pub judged_refusal : (line : ℕ) (parts : Parts) (raw : List ℕ) (quoted : Bool) (kind : SourceKind) → IsRawForm raw quoted parts.surface → (length raw == 0) ≡ false
     → (kind ≡ Memory) ⊎ (accept_short (row_from line parts) ≡ Refused kind) → (kind ≡ Memory) ⊎ (lexicon_outcome line parts ≡ Refused kind)
 judged_refusal line parts raw quoted kind is some (inl memory) = inl memory
 judged_refusal line parts raw quoted kind is some (inr cause) = inr (is_judged_line line parts raw quoted is some ∙ cause)
@@ -113,7 +113,7 @@ pub parts_refusal : (judge : ℕ → Parts → Outcome) (number : ℕ) (line tex
 parts_refusal judge number line text parts kind some same utf8 first (inl memory) = inl memory
 parts_refusal judge number line text parts kind some same utf8 first (inr cause) = inr (parts_outcome judge number line text parts (Refused kind) some same utf8 first cause)
 
--- of a line whose every row is accepted
+-- the outcome of a line if every row is accepted
 pub row_accepted : (number : ℕ) (line : List ℕ) (raw : LineParts) (row : Row) (entry : HasEntry line raw) → row_from number entry.has.parts ≡ Some row → IsOutcome row_outcome number line (Accepted row)
 row_accepted number line raw row entry is =
     parts_outcome row_outcome number line line entry.has.parts (Accepted row) entry.filled refl entry.utf8 entry.has.first (ap accept_any is)

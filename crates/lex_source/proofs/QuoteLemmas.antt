@@ -1,4 +1,5 @@
--- Fields between quotes: what doubles a quote, where the closing quote stands, and how a doubled text is read back.
+-- Quoted fields: the doubling of quotes, the position of the closing quote, and how a doubled text
+-- is read back.
 use Rattle.std.proofs.Common.{◌≡◌, ℕ, ◌+◌, ◌-◌, ◌<◌, ◌≤◌, false, cond, List, [], ◌∷◌, ◌++◌, length, take, drop, get_or, refl, sym, ◌∙◌, ap, subst, arith, inl, inr, length-take, length-drop, append_assoc}
 use Rattle.std.specs.Prelude.{slice_index, min}
 use Rattle.std.specs.List.{list_any}
@@ -11,9 +12,9 @@ use Rattle.mj_model.specs.Bytes.{quote, is_quote}
 use Rattle.mj_model.specs.Fields.{with_doubled_quotes}
 use Rattle.mj_model.proofs.Basics.{same_head, same_tail}
 use Rattle.mj_model.proofs.FieldLemmas.{doubled_quote, doubled_other}
-use Rattle.lex_source.specs.Cuts.{IsCut}
+use Rattle.lex_source.specs.Splits.{IsSplit}
 use Rattle.lex_source.specs.Spelled.{IsDoubled, IsNextQuote}
-use Rattle.lex_source.proofs.CutLemmas.{cut_parts}
+use Rattle.lex_source.proofs.SplitLemmas.{cut_parts}
 
 of_byte : ℕ → List ℕ
 of_byte c = cond (is_quote c) (quote ∷ quote ∷ []) (c ∷ [])
@@ -29,7 +30,7 @@ doubled_plain (c ∷ cs) h =
     let p = or_parts (is_quote c) (list_any is_quote cs) h in
     doubled_other c cs (eqb-false c quote p.0) ∙ ap (λ (xs : List ℕ). c ∷ xs) (doubled_plain cs p.1)
 
--- no quote stands from one place up to the next quote
+-- there is no quote from `start` up to the next quote
 plain_before : (text : List ℕ) (start at : ℕ) → IsNextQuote text start at → list_any is_quote (take (at - start) (drop start text)) ≡ false
 plain_before text start at next =
     list_any_none is_quote (take (at - start) (drop start text)) (λ k d in'.
@@ -40,7 +41,7 @@ plain_before text start at next =
     get_or-take (at - start) (drop start text) k d low ∙ get_or-drop start text k d ∙ get_or_default text (start + k) d 0 within in
     ap is_quote here ∙ ne_eqb (get_or text (start + k) 0) quote (next.before (start + k) (omega arith) (omega arith)))
 
--- what `memchr` tells of the next quote
+-- the result of `memchr` for the next quote
 pub next_found : (text rest : List ℕ) (start at : ℕ) → rest ≡ drop start text → start ≤ length text → NoneBefore (Passes is_quote rest) 0 (length rest) at → Passes is_quote rest at
     → IsNextQuote text start (start + at)
 next_found text rest start at is within none found =
@@ -96,29 +97,29 @@ doubled_more text at next inside in' one two more =
           ∙ ap (λ (xs : List ℕ). xs ++ quote ∷ quote ∷ with_doubled_quotes piece) inside.1 ∙ sym (doubled-append inside.0 (quote ∷ piece)),
     )
 
-read_back : (before behind field : List ℕ) → with_doubled_quotes field ≡ before ++ quote ∷ behind → list_any is_quote before ≡ false
-    → (left : List ℕ) × (behind ≡ quote ∷ with_doubled_quotes left) × (field ≡ before ++ quote ∷ left)
-read_back [] behind [] e none = absurd (cc)
-read_back [] behind (c ∷ cs) e none = elim (cases_eq c quote) [
-  | inl q ↦ (cs, sym (same_tail quote quote (quote ∷ with_doubled_quotes cs) behind (sym (doubled_quote c cs q) ∙ e)), ap (λ (d : ℕ). d ∷ cs) q)
-  | inr n ↦ absurd (n (same_head c quote (with_doubled_quotes cs) behind (sym (doubled_other c cs n) ∙ e)))
+read_back : (before following field : List ℕ) → with_doubled_quotes field ≡ before ++ quote ∷ following → list_any is_quote before ≡ false
+    → (left : List ℕ) × (following ≡ quote ∷ with_doubled_quotes left) × (field ≡ before ++ quote ∷ left)
+read_back [] following [] e none = absurd (cc)
+read_back [] following (c ∷ cs) e none = elim (cases_eq c quote) [
+  | inl q ↦ (cs, sym (same_tail quote quote (quote ∷ with_doubled_quotes cs) following (sym (doubled_quote c cs q) ∙ e)), ap (λ (d : ℕ). d ∷ cs) q)
+  | inr n ↦ absurd (n (same_head c quote (with_doubled_quotes cs) following (sym (doubled_other c cs n) ∙ e)))
 ]
-read_back (b ∷ bs) behind [] e none = absurd (cc)
-read_back (b ∷ bs) behind (c ∷ cs) e none =
+read_back (b ∷ bs) following [] e none = absurd (cc)
+read_back (b ∷ bs) following (c ∷ cs) e none =
     let p = or_parts (is_quote b) (list_any is_quote bs) none in
     elim (cases_eq c quote) [
-      | inl q ↦ absurd (eqb-false b quote p.0 (sym (same_head quote b (quote ∷ with_doubled_quotes cs) (bs ++ quote ∷ behind) (sym (doubled_quote c cs q) ∙ e))))
+      | inl q ↦ absurd (eqb-false b quote p.0 (sym (same_head quote b (quote ∷ with_doubled_quotes cs) (bs ++ quote ∷ following) (sym (doubled_quote c cs q) ∙ e))))
       | inr n ↦
-          let e' : c ∷ with_doubled_quotes cs ≡ b ∷ (bs ++ quote ∷ behind) = sym (doubled_other c cs n) ∙ e in
-          let r = read_back bs behind cs (same_tail c b (with_doubled_quotes cs) (bs ++ quote ∷ behind) e') p.1 in
-          (r.0, r.1, ap (λ (d : ℕ). d ∷ cs) (same_head c b (with_doubled_quotes cs) (bs ++ quote ∷ behind) e') ∙ ap (λ (xs : List ℕ). b ∷ xs) r.2)
+          let e' : c ∷ with_doubled_quotes cs ≡ b ∷ (bs ++ quote ∷ following) = sym (doubled_other c cs n) ∙ e in
+          let r = read_back bs following cs (same_tail c b (with_doubled_quotes cs) (bs ++ quote ∷ following) e') p.1 in
+          (r.0, r.1, ap (λ (d : ℕ). d ∷ cs) (same_head c b (with_doubled_quotes cs) (bs ++ quote ∷ following) e') ∙ ap (λ (xs : List ℕ). b ∷ xs) r.2)
     ]
 
-pub pair : (field text before behind : List ℕ) → text ≡ with_doubled_quotes field → IsCut is_quote text before behind
-    → (left : List ℕ) × (behind ≡ quote ∷ with_doubled_quotes left) × (field ≡ before ++ quote ∷ left)
-pair field text before behind is cut =
-    let p = cut_parts quote text before behind cut in
-    read_back before behind field (sym is ∙ p.0) p.1
+pub pair : (field text before following : List ℕ) → text ≡ with_doubled_quotes field → IsSplit is_quote text before following
+    → (left : List ℕ) × (following ≡ quote ∷ with_doubled_quotes left) × (field ≡ before ++ quote ∷ left)
+pair field text before following is cut =
+    let p = cut_parts quote text before following cut in
+    read_back before following field (sym is ∙ p.0) p.1
 
 -- without a quote a doubled text is the field
 pub no_left : (field : List ℕ) → list_any is_quote (with_doubled_quotes field) ≡ false → with_doubled_quotes field ≡ field
@@ -133,17 +134,17 @@ no_left (c ∷ cs) h = elim (cases_eq c quote) [
 pub unquoted : (field text : List ℕ) → text ≡ with_doubled_quotes field → list_any is_quote text ≡ false → text ≡ field
 unquoted field text is h = is ∙ no_left field (ap (list_any is_quote) (sym is) ∙ h)
 
--- behind the first quote of a doubled text stands another
-pub behind_quote : (rest before behind : List ℕ) → IsDoubled rest → IsCut is_quote rest before behind → (0 < length behind) × (slice_index behind 0 < 128)
-behind_quote rest before behind d cut =
-    let r = pair d.0 rest before behind d.1 cut in
+-- the first quote of a doubled text is followed by another
+pub behind_quote : (rest before following : List ℕ) → IsDoubled rest → IsSplit is_quote rest before following → (0 < length following) × (slice_index following 0 < 128)
+behind_quote rest before following d cut =
+    let r = pair d.0 rest before following d.1 cut in
     subst (λ (xs : List ℕ). (0 < length xs) × (slice_index xs 0 < 128)) (sym r.1) (omega arith, omega arith)
 
 -- the step back over one pair
-pub read_more : (raw field rest before behind done next after : List ℕ) → (left : List ℕ) × (rest ≡ with_doubled_quotes left) × (field ≡ done ++ left) → IsCut is_quote rest before behind → next ≡ drop 1 behind
+pub read_more : (raw field rest before following done next after : List ℕ) → (left : List ℕ) × (rest ≡ with_doubled_quotes left) × (field ≡ done ++ left) → IsSplit is_quote rest before following → next ≡ drop 1 following
     → after ≡ (done ++ before) ++ quote ∷ [] → (left : List ℕ) × (next ≡ with_doubled_quotes left) × (field ≡ after ++ left)
-read_more raw field rest before behind done next after p cut is pushed =
-    let r = pair p.0 rest before behind p.1 cut in (
+read_more raw field rest before following done next after p cut is pushed =
+    let r = pair p.0 rest before following p.1 cut in (
       r.0,
       is ∙ ap (λ (xs : List ℕ). drop 1 xs) r.1,
       p.2 ∙ ap (λ (xs : List ℕ). done ++ xs) r.2 ∙ sym (append_assoc done before (quote ∷ r.0)) ∙ sym (append_assoc (done ++ before) (quote ∷ []) r.0)
@@ -153,7 +154,7 @@ read_more raw field rest before behind done next after p cut is pushed =
 pub read_all : (field rest done after : List ℕ) → (left : List ℕ) × (rest ≡ with_doubled_quotes left) × (field ≡ done ++ left) → list_any is_quote rest ≡ false → after ≡ done ++ rest → after ≡ field
 read_all field rest done after p none pushed = pushed ∙ ap (λ (xs : List ℕ). done ++ xs) (unquoted p.0 rest p.1 none) ∙ sym p.2
 
--- what stood in front stays there
+-- the bytes before stay unchanged
 pub front_more : (old done more new : List ℕ) → take (length old) done ≡ old → new ≡ done ++ more → take (length old) new ≡ old
 front_more old done more new front is =
     let long : length (take (length old) done) ≡ min (length old) (length done) = length-take (length old) done in

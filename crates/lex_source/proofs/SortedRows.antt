@@ -1,5 +1,6 @@
--- Records that were sorted by their surfaces, seen as rows: they stand in the byte order of the surfaces, and rows of one surface in
--- the order in which they were given. Stability is known of each record; a row that ties with none of the records says nothing.
+-- Records sorted by their surfaces, seen as rows: they are in the byte order of the surfaces, and
+-- rows with equal surfaces keep their order. Stability is known of each record; nothing needs a
+-- proof for a row that ties with no record.
 use Rattle.std.proofs.Common.{◌≡◌, ℕ, ◌+◌, ◌<◌, Bool, true, false, cond, List, [], ◌∷◌, length, get_or, map, sym, ap, ◌∙◌, refl, arith}
 use Rattle.std.specs.Cow.{cow_str_bytes}
 use Rattle.std.specs.Prelude.{not, ◌&&◌, filter, IsSortedBy, IsSortedByKey}
@@ -63,7 +64,8 @@ first_passes : {X : Type 0} (p : X → Bool) (xs zs : List X) (x : X) → filter
 first_passes p [] zs x h = cc
 first_passes p (y ∷ ys) zs x h = first_passes_by p y ys zs x (p y) refl (first_passes p ys zs x) h
 
--- a test that agrees with a relation's at each element that passes it keeps the same of two lists of which the relation keeps the same
+-- a test that agrees with a relation at each element that passes it selects the same from two
+-- lists, if the relation does
 same_kept_by : {X : Type 0} (p : X → Bool) (q : X → X → Bool) (xs ys : List X) → ((x : X) → p x ≡ true → (z : X) → p z ≡ q x z) → ((x : X) → filter (q x) ys ≡ filter (q x) xs)
     → (us vs : List X) → filter p ys ≡ us → filter p xs ≡ vs → filter p ys ≡ filter p xs
 same_kept_by p q xs ys agree same [] [] e f = e ∙ sym f

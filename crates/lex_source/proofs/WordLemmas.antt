@@ -32,7 +32,7 @@ first_later text n some other here = elim (cases_lt 0 n) [
       absurd (both_ways (is_blank (get_or text 0 0)) other (sym (ap (λ (k : ℕ). is_blank (get_or text k 0)) e) ∙ here))
 ]
 
--- a text that begins with no blank begins with a word
+-- a text that does not start with a blank starts with a word
 word_first : (text : List ℕ) (n : ℕ) → 0 < length text → is_blank (get_or text 0 0) ≡ false → n ≡ position_or_len is_blank text → words_of text ≡ take n text ∷ words_of (drop n text)
 word_first text n some other is = elim (cases_lt n (length text)) [
   | inl in' ↦
@@ -41,10 +41,10 @@ word_first text n some other is = elim (cases_lt n (length text)) [
       let long : 0 < n = first_later text n some other here in
       let split : slice_split is_blank text ≡ take n text ∷ slice_split is_blank (drop (n + 1) text) =
       slice_split_first is_blank text 0 within ∙ sym (ap (λ (k : ℕ). take k text ∷ slice_split is_blank (drop (k + 1) text)) is) in
-      let behind : words_of (drop n text) ≡ words_of (drop (n + 1) text) = ap words_of (drop_more text n 0 in') ∙ words_behind_blank (get_or text n 0) (drop (n + 1) text) here in
+      let following : words_of (drop n text) ≡ words_of (drop (n + 1) text) = ap words_of (drop_more text n 0 in') ∙ words_behind_blank (get_or text n 0) (drop (n + 1) text) here in
       let kept : nat_lt 0 (length (take n text)) ≡ true = lt-ltb 0 (length (take n text)) (omega (arith, length-take {A = ℕ})) in
       ap (filter (λ word. nat_lt 0 (length word))) split ∙ cond-true (nat_lt 0 (length (take n text))) (take n text ∷ words_of (drop (n + 1) text)) (words_of (drop (n + 1) text)) kept
-      ∙ ap (λ (ws : List (List ℕ)). take n text ∷ ws) (sym behind)
+      ∙ ap (λ (ws : List (List ℕ)). take n text ∷ ws) (sym following)
   | inr out ↦
       let all : take n text ≡ text = take_all n text out in
       let split : slice_split is_blank text ≡ text ∷ [] = slice_split_none is_blank text (λ k d low. fails_before_first is_blank text k d (omega arith)) in
@@ -53,18 +53,18 @@ word_first text n some other is = elim (cases_lt n (length text)) [
       ∙ ap (λ (xs : List ℕ). xs ∷ []) (sym all) ∙ ap (λ (xs : List ℕ). take n text ∷ words_of xs) (sym (drop_all n text out))
 ]
 
--- behind the blanks of a line
+-- after the blanks of a line
 pub no_word : (line text : List ℕ) (n : ℕ) → n ≡ prefix_len is_blank line → text ≡ drop n line → length text ≡ 0 → words_of line ≡ []
-no_word line text n is behind none = sym (words_behind line n (sym is)) ∙ ap words_of (sym behind ∙ nil_from_length text none)
+no_word line text n is following none = sym (words_behind line n (sym is)) ∙ ap words_of (sym following ∙ nil_from_length text none)
 
 pub a_word : (line text word rest : List ℕ) (n end : ℕ) → n ≡ prefix_len is_blank line → text ≡ drop n line → 0 < length text → end ≡ position_or_len is_blank text → word ≡ take end text → rest ≡ drop end text
     → words_of line ≡ word ∷ words_of rest
-a_word line text word rest n end is behind some end_is word_is rest_is =
-    let long : length text ≡ length (drop n line) = ap (λ (xs : List ℕ). length xs) behind in
+a_word line text word rest n end is following some end_is word_is rest_is =
+    let long : length text ≡ length (drop n line) = ap (λ (xs : List ℕ). length xs) following in
     let within : prefix_len is_blank line < length line = omega (arith, length-drop n line) in
     let here : get_or text 0 0 ≡ get_or line (prefix_len is_blank line) 0 =
-    ap (λ (xs : List ℕ). get_or xs 0 0) behind ∙ get_or-drop n line 0 0 ∙ ap (λ (k : ℕ). get_or line k 0) (let e : n + 0 ≡ prefix_len is_blank line = omega arith in e) in
-    sym (words_behind line n (sym is)) ∙ ap words_of (sym behind)
+    ap (λ (xs : List ℕ). get_or xs 0 0) following ∙ get_or-drop n line 0 0 ∙ ap (λ (k : ℕ). get_or line k 0) (let e : n + 0 ≡ prefix_len is_blank line = omega arith in e) in
+    sym (words_behind line n (sym is)) ∙ ap words_of (sym following)
     ∙ word_first text end some (ap is_blank here ∙ prefix_len_stops is_blank line 0 within) end_is
     ∙ ap (λ (xs : List ℕ). xs ∷ words_of (drop end text)) (sym word_is) ∙ ap (λ (xs : List ℕ). word ∷ words_of xs) (sym rest_is)
 

@@ -1,4 +1,4 @@
--- The entries of lexicons, with the sizes of the connection table that their ids are for.
+-- The entries of lexicons, with the sizes of their connection table.
 use Rattle.std.specs.Prelude.{◌≡◌, ◌≤◌, All, IsSortedByKey, IsTrue, List, length}
 use Rattle.std.specs.Cmp.Lexicographic.{slice_cmp}
 use Rattle.std.specs.Ordering.{nat_cmp}
@@ -9,12 +9,12 @@ use Rattle.mj_model.specs.Connection.{is_pair}
 use Rattle.mj_model.specs.Dictionary.{IsInOrder, surface_of}
 use Rattle.mj_model.specs.Lexicon.{Row, rows_of}
 
--- entries, and the sizes
+-- entries, with the sizes of their connection table
 pub record LexiconRows : Type 0 where
   pub sizes : MatrixSizes
   pub rows : List Row
 
--- records, without where they lie in memory
+-- the contents of records
 abbrev pub entries_in : MatrixSizes → List Record → LexiconRows
 entries_in sizes records = record { sizes = sizes; rows = rows_of records }
 
@@ -24,17 +24,18 @@ pub record IsLexiconRow (sizes : MatrixSizes) (row : Row) : Type 0 where
   pub some : 1 ≤ length row.surface
   pub short : length row.surface ≤ SURFACE_MAX
 
--- at most `ENTRIES_MAX` such entries
+-- at most `ENTRIES_MAX` valid entries
 pub record AreLexiconRows (lexicon : LexiconRows) : Type 0 where
   pub each : All (IsLexiconRow lexicon.sizes) lexicon.rows
   pub few : length lexicon.rows ≤ ENTRIES_MAX
 
--- such entries in the byte order of their surfaces
+-- valid entries, sorted by the bytes of their surfaces
 pub record AreSortedRows (lexicon : LexiconRows) : Type 0 where
   pub entries : AreLexiconRows lexicon
   pub sorted : IsSortedByKey surface_of (slice_cmp nat_cmp) lexicon.rows
 
--- the entries of a lexicon in the byte order of their surfaces, those of one surface in their order
+-- the entries of a lexicon sorted by the bytes of their surfaces, those with equal surfaces in
+-- their order
 pub record AreSortedOf (given sorted : LexiconRows) : Type 0 where
   pub sizes : sorted.sizes ≡ given.sizes
   pub in_order : IsInOrder given.rows sorted.rows

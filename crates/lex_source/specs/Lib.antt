@@ -1,10 +1,10 @@
-pub mod Cuts
+pub mod Splits
 pub mod Digits
-pub mod Filled
+pub mod NonblankLines
 pub mod Spelled
 pub mod Steps
-pub mod Answers
+pub mod Results
 pub mod Lexicons
-pub mod Heads
-pub mod HeadedRecords
+pub mod SurfacePrefixes
+pub mod PrefixedRecords
 pub mod AddedLexicon

@@ -1,15 +1,17 @@
-//! A field by its number.
+//! Fields by their numbers.
 ghost use Rattle.std.specs.Prelude.{◌≡◌, ℕ, List, IfOk, option_map, string_bytes, take, vec_len};
-ghost use Rattle.lex_source.specs.Answers.{GrowsByField, GrowsByFound, IsField};
+ghost use Rattle.lex_source.specs.Results.{GrowsByField, GrowsByFound, IsField};
 ghost use Rattle.lex_source.specs.Spelled.{IsFieldAt};
 
 use crate::raw_field::RawField;
 use std::alloc::{AllocError, Global};
 use std::string::String;
 
-/// Field `n` of a line, counted from 0, without its quotes, or None where there is none. Blanks and tabs before a field are
-/// skipped; what stands between a closing quote and the next comma is ignored. (MeCab's CSV; what it leaves open is this
-/// project's own choice)
+/// Returns field `n` of a line, counted from 0, without its quotes, or `None` if there are fewer
+/// fields.
+///
+/// Blanks and tabs before a field are skipped. Bytes from a closing quote to the next comma are
+/// ignored. (MeCab's CSV; what it leaves open is this project's own choice)
 pub fn field(alloc: Global, text: &str, n: usize) -> Result<Option<String>, AllocError>
     ensures { IfOk result (λ found. IsField text.now n (option_map string_bytes found)) }
 {
@@ -19,16 +21,18 @@ pub fn field(alloc: Global, text: &str, n: usize) -> Result<Option<String>, Allo
     }
 }
 
-/// Appends field `n` of a line, as `field` finds it, and tells whether there is one. On an error a part of it may stand there.
+/// Appends field `n` of the line `text` to `out`, without its quotes, and returns whether the field
+/// exists. On an error a part of the field may have been appended.
 pub fn append_field(out: &mut Vec<u8>, text: &str, n: usize) -> Result<bool, AllocError>
     ensures appended { IfOk result (λ found. GrowsByField text.now n found
         out.old.items out.new.items) }
-    ensures kept { take (vec_len out.old) out.new.items ≡ out.old.items }
+    ensures unchanged { take (vec_len out.old) out.new.items ≡ out.old.items }
 {
     append_found(out, find_field(text, n))
 }
 
-/// Appends the field that was found, and tells whether there is one. On an error a part of it may stand there.
+/// Appends the field `found` to `out`, without its quotes, and returns whether there is one. On an
+/// error a part of the field may have been appended.
 pub(crate) fn append_found(
     out: &mut Vec<u8>,
     found: Option<RawField<'_>>,
@@ -36,7 +40,7 @@ pub(crate) fn append_found(
     requires { (text : List ℕ) × (n : ℕ) × IsFieldAt text n found }
     ensures appended { IfOk result (λ there. GrowsByFound found.entry there
         out.old.items out.new.items) }
-    ensures kept { take (vec_len out.old) out.new.items ≡ out.old.items }
+    ensures unchanged { take (vec_len out.old) out.new.items ≡ out.old.items }
 {
     match found {
         Some(field) => {
@@ -47,7 +51,7 @@ pub(crate) fn append_found(
     }
 }
 
-/// Where field `n` of a line stands.
+/// Returns field `n` of the line `text`, counted from 0, or `None` if there are fewer fields.
 pub(crate) fn find_field(text: &str, n: usize) -> Option<RawField<'_>>
     ensures { IsFieldAt text.now n result }
 {

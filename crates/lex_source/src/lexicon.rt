@@ -1,16 +1,19 @@
-//! Lexicons.
+//! Reading of lexicons.
 ghost use Rattle.std.specs.Prelude.{◌≡◌, length, take, IfOk, IfErr, OnErr, Ok, Err};
-ghost use Rattle.mj_model.specs.FirstFault.{IsRefusal};
+ghost use Rattle.mj_model.specs.FirstFault.{IsMemoryOr};
 ghost use Rattle.mj_model.specs.Lexicon.{IsLexicon};
-ghost use Rattle.lex_source.specs.Answers.{AnswersLexicon, AppendsLexicon, AppendsLine, IsLineRefusal};
+ghost use Rattle.lex_source.specs.Results.{IsLexiconResult, AppendsLexicon, AppendsLine, IsLineError};
 
 use crate::outcome::{LineOutcome, read_line};
 use crate::source_lines::lines;
 use mj_model::{ENTRIES_MAX, Record, SourceFault, SourceKind};
 use std::alloc::Global;
 
-/// Appends the accepted lines of a lexicon to `out`, and answers how many were skipped for their empty surface. `file` is the
-/// lexicon's number in a fault. (MeCab, dic-detail)
+/// Appends the accepted lines of a lexicon to `out`, and returns how many were skipped because
+/// their surface is empty.
+///
+/// `file` is the lexicon's file number in an error. On an error `out` is unchanged. (MeCab,
+/// dic-detail)
 pub fn read_lexicon<'a>(
     alloc: Global,
     bytes: &'a [u8],
@@ -18,9 +21,9 @@ pub fn read_lexicon<'a>(
     out: &mut Vec<Record<'a>>,
 ) -> Result<u64, SourceFault>
     ensures accepted { IfOk result (AppendsLexicon file bytes.now out.old.items out.new.items) }
-    ensures refused { IfErr result (λ fault. IsRefusal fault
+    ensures rejected { IfErr result (λ fault. IsMemoryOr fault
         (IsLexicon file (length out.old.items) bytes.now (Err fault))) }
-    ensures kept { OnErr result (out.new.items ≡ out.old.items) }
+    ensures unchanged { OnErr result (out.new.items ≡ out.old.items) }
 {
     let held = out.len();
     let read = append_lines(alloc, bytes, file, out);
@@ -30,7 +33,7 @@ pub fn read_lexicon<'a>(
     read
 }
 
-/// Appends the accepted lines up to the first bad one.
+/// Appends the accepted lines up to the first rejected one.
 fn append_lines<'a>(
     alloc: Global,
     bytes: &'a [u8],
@@ -38,7 +41,7 @@ fn append_lines<'a>(
     out: &mut Vec<Record<'a>>,
 ) -> Result<u64, SourceFault>
     ensures begins { take (length out.old.items) out.new.items ≡ out.old.items }
-    ensures read { AnswersLexicon file bytes.now out.old.items out.new.items result }
+    ensures read { IsLexiconResult file bytes.now out.old.items out.new.items result }
 {
     let mut skipped = 0;
     for (number, line) in lines(bytes) {
@@ -50,7 +53,7 @@ fn append_lines<'a>(
     Ok(skipped)
 }
 
-/// Appends what comes of a line, and answers whether it counts as skipped.
+/// Appends the record of a line, if it is accepted, and returns whether the line counts as skipped.
 fn append_line<'a>(
     alloc: Global,
     number: u64,
@@ -58,8 +61,8 @@ fn append_line<'a>(
     out: &mut Vec<Record<'a>>,
 ) -> Result<bool, SourceKind>
     ensures taken { IfOk result (AppendsLine number line.now out.old.items out.new.items) }
-    ensures refused { IfErr result (IsLineRefusal number line.now (length out.old.items)) }
-    ensures kept { OnErr result (out.new.items ≡ out.old.items) }
+    ensures rejected { IfErr result (IsLineError number line.now (length out.old.items)) }
+    ensures unchanged { OnErr result (out.new.items ≡ out.old.items) }
 {
     match read_line(alloc, number, line)? {
         LineOutcome::Blank => Ok(false),

@@ -3,25 +3,25 @@ ghost use Rattle.std.specs.Prelude.{◌≡◌, ℕ, ◌+◌, ◌<◌, ◌^◌, L
 ghost use Rattle.std.specs.List.{enumerate_from};
 ghost use Rattle.std.specs.Iterator.{YieldsFirstBy, item_count};
 ghost use Rattle.mj_model.specs.Lines.{numbered_lines, source_lines, without_return as line_without_return};
-ghost use Rattle.lex_source.specs.Filled.{line_seen};
+ghost use Rattle.lex_source.specs.NonblankLines.{line_view};
 
 use crate::bytes::split_first;
 use std::marker::Model;
 
-/// The lines that are left, with their numbers.
+/// An iterator over the lines of a source file, with their numbers.
 #[derive(Drop)]
 pub struct Lines<'a> {
-    /// How many lines were told.
-    told: u64,
+    /// The number of lines that were returned.
+    reported: u64,
     rest: &'a [u8],
 }
 
 impl<'a> Model for Lines<'a> {
     ghost Value = { List (ℕ × List ℕ) };
 
-    ghost view = { λ it. enumerate_from (it.told + 1) (source_lines it.rest.now) };
+    ghost view = { λ it. enumerate_from (it.reported + 1) (source_lines it.rest.now) };
 
-    ghost invariant = { λ it. it.told + length it.rest.now < 2 ^ 64 };
+    ghost invariant = { λ it. it.reported + length it.rest.now < 2 ^ 64 };
 }
 
 impl<'a> Lines<'a> {
@@ -29,7 +29,7 @@ impl<'a> Lines<'a> {
         ensures { result ≡ numbered_lines bytes.now }
     {
         Lines {
-            told: 0,
+            reported: 0,
             rest: bytes,
         }
     }
@@ -38,7 +38,7 @@ impl<'a> Lines<'a> {
 impl<'a> Iterator for Lines<'a> {
     type Item = (u64, &'a [u8]);
 
-    ghost next_gives = { YieldsFirstBy line_seen (λ rest. rest) };
+    ghost next_gives = { YieldsFirstBy line_view (λ rest. rest) };
 
     ghost remaining = { item_count (λ rest. rest) };
 
@@ -47,13 +47,13 @@ impl<'a> Iterator for Lines<'a> {
             return None;
         }
         let (line, rest) = first_line(self.rest);
-        self.told += 1;
+        self.reported += 1;
         self.rest = rest;
-        Some((self.told, line))
+        Some((self.reported, line))
     }
 }
 
-/// The first line, and the bytes behind its line feed.
+/// Returns the first line, and the bytes after its line feed.
 fn first_line(bytes: &[u8]) -> (&[u8], &[u8])
     requires { 0 < length bytes.now }
     ensures lines { source_lines bytes.now ≡ result.0.now ∷ source_lines result.1.now }
@@ -65,7 +65,7 @@ fn first_line(bytes: &[u8]) -> (&[u8], &[u8])
     }
 }
 
-/// A line without the one carriage return at its end.
+/// Returns `line` without the carriage return at its end, if it has one.
 fn without_return(line: &[u8]) -> &[u8]
     ensures { result.now ≡ line_without_return line.now }
 {

@@ -3,38 +3,39 @@ ghost use Rattle.std.specs.Prelude.{◌≡◌, ◌≤◌, ◌+◌, ◌^◌, ◌-
 ghost use Rattle.mj_model.specs.Numbers.{number_in, unsigned_number, context_id as context_id_of, cost as cost_of};
 ghost use Rattle.lex_source.specs.Digits.{up_to, with_digit};
 
-use crate::bytes::without_blanks_behind;
+use crate::bytes::without_trailing_blanks;
 
-/// The greatest magnitude of a 32-bit number with a sign.
+/// The greatest magnitude of a signed 32-bit number.
 const MAGNITUDE_MAX: u64 = 1 << 31;
 
-/// A decimal number: an optional `-` or `+`, digits, and blanks and tabs behind them. None where the text is no such
-/// number, or its value doesn't fit. (This project's own choice)
+/// Returns the value of a decimal number: an optional `-` or `+`, digits, then blanks and tabs.
+/// Returns `None` if `text` is anything else, or if the value does not fit. (This project's own
+/// choice)
 pub fn number(text: &[u8]) -> Option<i32>
     ensures { result ≡ number_in (neg_ℤ (pos (2 ^ 31))) (pos (2 ^ 31 - 1)) text.now }
 {
-    match without_blanks_behind(text) {
+    match without_trailing_blanks(text) {
         [b'-', digits @ ..] => Some(negative(natural(digits)?)),
         [b'+', digits @ ..] => positive(natural(digits)?),
         digits => positive(natural(digits)?),
     }
 }
 
-/// A context id: a number from 0 to 65,535.
+/// Returns a context id: a number from 0 to 65,535.
 pub fn context_id(text: &[u8]) -> Option<u16>
     ensures { result ≡ context_id_of text.now }
 {
     u16::try_from(number(text)?).ok()
 }
 
-/// A word cost or a connection cost: a number from -32,768 to 32,767.
+/// Returns a word cost or a connection cost: a number from -32,768 to 32,767.
 pub fn cost(text: &[u8]) -> Option<i16>
     ensures { result ≡ cost_of text.now }
 {
     i16::try_from(number(text)?).ok()
 }
 
-/// The value of decimal digits, if it is at most `MAGNITUDE_MAX`.
+/// Returns the value of decimal digits, if it is at most `MAGNITUDE_MAX`.
 fn natural(digits: &[u8]) -> Option<u64>
     ensures { result ≡ up_to (2 ^ 31) (unsigned_number digits.now) }
 {
@@ -43,7 +44,7 @@ fn natural(digits: &[u8]) -> Option<u64>
     }
     let mut value = 0;
     for byte in digits {
-        value = with_one_more(value, *byte)?;
+        value = append_digit(value, *byte)?;
     }
     if value <= MAGNITUDE_MAX {
         Some(value)
@@ -52,8 +53,9 @@ fn natural(digits: &[u8]) -> Option<u64>
     }
 }
 
-/// A value with one more digit; all above `MAGNITUDE_MAX` are one.
-fn with_one_more(value: u64, byte: u8) -> Option<u64>
+/// Returns `value` with one more digit, or `None` if `byte` is no digit. The result is
+/// `MAGNITUDE_MAX + 1` for all greater values.
+fn append_digit(value: u64, byte: u8) -> Option<u64>
     requires { value ≤ 2 ^ 31 + 1 }
     ensures { result ≡ with_digit value byte }
 {

@@ -1,47 +1,48 @@
-//! Records in the byte order of their surfaces.
+//! Sorting of records by the bytes of their surfaces.
 ghost use Rattle.std.specs.Prelude.{◌≡◌, [], map, IfOk};
 ghost use Rattle.mj_model.specs.Dictionary.{IsInOrder};
 ghost use Rattle.mj_model.specs.Lexicon.{rows_of};
-ghost use Rattle.lex_source.specs.HeadedRecords.{without_head};
+ghost use Rattle.lex_source.specs.PrefixedRecords.{without_prefix};
 
-use crate::headed::{Headed, by_surface, head_of};
+use crate::prefixed_record::{PrefixedRecord, by_surface, surface_prefix};
 use mj_model::Record;
 use std::alloc::AllocError;
 
-/// The records in the byte order of their surfaces, those of one surface in the order given.
+/// Returns the records sorted by the bytes of their surfaces. Records with equal surfaces keep
+/// their order.
 pub(crate) fn in_order(records: Vec<Record<'_>>) -> Result<Vec<Record<'_>>, AllocError>
     ensures { IfOk result
         (λ ordered. IsInOrder (rows_of records.entry.items) (rows_of ordered.items)) }
 {
-    // Taken before the sort takes its room: taken after, it would lie in what the sort gave back, and the C library would keep it when the
-    // records go.
+    // Allocate this before the sort allocates its buffer. Later it would lie in the memory that the
+    // sort freed, and the C library would keep that memory after the records are freed.
     let room = Vec::with_capacity(*records.allocator(), records.len())?;
-    let mut headed = with_heads(records)?;
+    let mut headed = with_prefixes(records)?;
     headed.sort_by(by_surface)?;
-    without_heads(headed, room)
+    without_prefixes(headed, room)
 }
 
-/// Records with the heads of their surfaces.
-fn with_heads(records: Vec<Record<'_>>) -> Result<Vec<Headed<'_>>, AllocError>
-    ensures { IfOk result (λ headed. map without_head headed.items ≡ records.entry.items) }
+/// Returns the records with the prefixes of their surfaces.
+fn with_prefixes(records: Vec<Record<'_>>) -> Result<Vec<PrefixedRecord<'_>>, AllocError>
+    ensures { IfOk result (λ headed. map without_prefix headed.items ≡ records.entry.items) }
 {
     let mut headed = Vec::with_capacity(*records.allocator(), records.len())?;
     for row in records {
-        headed.push(Headed {
-            head: head_of(row.surface.as_str().as_bytes()),
+        headed.push(PrefixedRecord {
+            head: surface_prefix(row.surface.as_str().as_bytes()),
             row,
         })?;
     }
     Ok(headed)
 }
 
-/// The records alone, in `room`, which has none yet.
-fn without_heads<'a>(
-    headed: Vec<Headed<'a>>,
+/// Returns the records without their prefixes, in the empty vector `room`.
+fn without_prefixes<'a>(
+    headed: Vec<PrefixedRecord<'a>>,
     mut room: Vec<Record<'a>>,
 ) -> Result<Vec<Record<'a>>, AllocError>
     requires { room.items ≡ [] }
-    ensures { IfOk result (λ records. records.items ≡ map without_head headed.entry.items) }
+    ensures { IfOk result (λ records. records.items ≡ map without_prefix headed.entry.items) }
 {
     for one in headed {
         room.push(one.row)?;

@@ -1,9 +1,9 @@
-//! What comes of a line of a lexicon.
+//! The outcome of a lexicon line.
 ghost use Rattle.std.specs.Prelude.{◌≡◌, ℕ, Some, option_map};
 ghost use Rattle.mj_model.specs.declared.source_fault.SourceKind.TheVariants.{BadNumber};
 ghost use Rattle.mj_model.specs.Lexicon.{Parts, Accepted, row_from, accept_short};
-ghost use Rattle.lex_source.specs.Answers.{AnswersAccepted, AnswersLine, AnswersRow};
-ghost use Rattle.lex_source.specs.Spelled.{StandsFor};
+ghost use Rattle.lex_source.specs.Results.{IsAcceptedRecord, IsLineResult, IsRowResult};
+ghost use Rattle.lex_source.specs.Spelled.{HasSplit};
 ghost use Rattle.lex_source.specs.Steps.{row_with};
 
 use crate::numbers::{context_id, cost};
@@ -11,16 +11,16 @@ use crate::parts::{LineParts, split_line};
 use mj_model::{Entry, Record, SURFACE_MAX, SourceKind};
 use std::alloc::Global;
 
-/// What comes of a line that isn't refused.
+/// The outcome of a line that is not rejected.
 #[derive(Drop)]
 pub(crate) enum LineOutcome<'a> {
     Blank,
-    /// Its surface is empty.
+    /// The line has an empty surface.
     Skipped,
     Accepted(Record<'a>),
 }
 
-/// The numbers of a line.
+/// The context ids and the cost of a line.
 #[derive(Clone, Copy)]
 pub(crate) struct IdsAndCost {
     left: u16,
@@ -28,13 +28,13 @@ pub(crate) struct IdsAndCost {
     cost: i16,
 }
 
-/// What comes of a line.
+/// Returns the outcome of a line, or why it is rejected.
 pub(crate) fn read_line(
     alloc: Global,
     number: u64,
     line: &[u8],
 ) -> Result<LineOutcome<'_>, SourceKind>
-    ensures { AnswersLine number line.now result }
+    ensures { IsLineResult number line.now result }
 {
     let Some(parts) = split_line(line)? else {
         return Ok(LineOutcome::Blank);
@@ -45,11 +45,11 @@ pub(crate) fn read_line(
     Ok(LineOutcome::Accepted(accept(alloc, number, parts)?))
 }
 
-/// The record of a line with these parts, whose surface is not too long.
+/// Returns the record of a line with these parts. A surface above `SURFACE_MAX` bytes is an error.
 fn accept<'a>(alloc: Global, number: u64, parts: LineParts<'a>) -> Result<Record<'a>, SourceKind>
-    requires { (meant : Parts) × StandsFor parts meant }
-    ensures { (meant : Parts) → StandsFor parts.entry meant
-        → AnswersAccepted (accept_short (row_from number meant)) result }
+    requires { (meant : Parts) × HasSplit parts meant }
+    ensures { (meant : Parts) → HasSplit parts.entry meant
+        → IsAcceptedRecord (accept_short (row_from number meant)) result }
 {
     let made = record_of(alloc, number, parts)?;
     if made.surface.len() > SURFACE_MAX {
@@ -58,15 +58,15 @@ fn accept<'a>(alloc: Global, number: u64, parts: LineParts<'a>) -> Result<Record
     Ok(made)
 }
 
-/// The record of a line with these parts.
+/// Returns the record of a line with these parts, whatever the length of its surface.
 pub(crate) fn record_of<'a>(
     alloc: Global,
     number: u64,
     parts: LineParts<'a>,
 ) -> Result<Record<'a>, SourceKind>
-    requires { (meant : Parts) × StandsFor parts meant }
-    ensures { (meant : Parts) → StandsFor parts.entry meant
-        → AnswersRow (row_from number meant) result }
+    requires { (meant : Parts) × HasSplit parts meant }
+    ensures { (meant : Parts) → HasSplit parts.entry meant
+        → IsRowResult (row_from number meant) result }
 {
     let Some(numbers) = ids_and_cost(parts) else {
         return Err(SourceKind::BadNumber);
@@ -85,9 +85,9 @@ pub(crate) fn record_of<'a>(
     })
 }
 
-/// The numbers of a line with these parts, or None where one is out of range.
+/// Returns the numbers of a line with these parts, or `None` if one is invalid or out of range.
 fn ids_and_cost(parts: LineParts) -> Option<IdsAndCost>
-    ensures { (number : ℕ) (meant : Parts) → StandsFor parts.entry meant
+    ensures { (number : ℕ) (meant : Parts) → HasSplit parts.entry meant
         → row_from number meant ≡ option_map (row_with number meant) result }
 {
     Some(IdsAndCost {

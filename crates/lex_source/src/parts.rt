@@ -1,13 +1,13 @@
-//! The parts of a line of a lexicon.
+//! The parts of a lexicon line.
 ghost use Rattle.std.specs.Prelude.{MatchOption};
-ghost use Rattle.lex_source.specs.Answers.{AnswersParts};
+ghost use Rattle.lex_source.specs.Results.{IsPartsResult};
 ghost use Rattle.lex_source.specs.Spelled.{HasParts, HasFewFields};
 
 use crate::bytes::is_blank_line;
 use crate::raw_field::RawField;
 use mj_model::SourceKind;
 
-/// The first four fields of a line, and all that stands behind the fourth comma.
+/// The first four fields of a line, and the remainder after the fourth comma.
 #[derive(Clone, Copy)]
 pub(crate) struct LineParts<'a> {
     pub(crate) surface: RawField<'a>,
@@ -17,9 +17,9 @@ pub(crate) struct LineParts<'a> {
     pub(crate) feature: &'a str,
 }
 
-/// The parts of a line, or None where it is blank.
+/// Returns the parts of a line, or `None` if the line is blank.
 pub(crate) fn split_line(line: &[u8]) -> Result<Option<LineParts<'_>>, SourceKind>
-    ensures { AnswersParts line.now result }
+    ensures { IsPartsResult line.now result }
 {
     if is_blank_line(line) {
         return Ok(None);
@@ -33,7 +33,7 @@ pub(crate) fn split_line(line: &[u8]) -> Result<Option<LineParts<'_>>, SourceKin
     Ok(Some(parts))
 }
 
-/// The parts of a line, or None where no comma ends its fourth field.
+/// Returns the parts of a line, or `None` if no comma ends its fourth field.
 pub(crate) fn line_parts(text: &str) -> Option<LineParts<'_>>
     ensures { MatchOption result (HasFewFields text.now) (HasParts text.now) }
 {

@@ -1,19 +1,19 @@
-//! Where the text of a field is appended.
+//! Outputs for the text of a field.
 
 ghost use Rattle.std.specs.Prelude.{◌≡◌, ◌++◌, ℕ, List, OnOk, OnErr, string_bytes};
 
 use std::alloc::AllocError;
 use std::string::String;
 
-/// A text, or bytes, that text is appended to.
+/// An output that text can be appended to.
 pub(crate) trait TextSink {
-    /// What was appended so far.
+    /// The bytes in the output.
     ghost bytes: { Self → List ℕ };
 
-    /// Appends a text.
+    /// Appends `text`. On an error the output is unchanged.
     fn push_text(&mut self, text: &str) -> Result<(), AllocError>
         ensures appended { OnOk result (bytes self.new ≡ bytes self.old ++ text.now) }
-        ensures kept { OnErr result (bytes self.new ≡ bytes self.old) };
+        ensures unchanged { OnErr result (bytes self.new ≡ bytes self.old) };
 }
 
 impl TextSink for String {

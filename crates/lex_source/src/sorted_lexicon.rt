@@ -6,7 +6,8 @@ ghost use Rattle.lex_source.specs.Lexicons.{AreSortedRows};
 use mj_model::{MatrixSizes, Record};
 use std::marker::Model;
 
-/// The entries of a dictionary in the byte order of their surfaces, whose ids lie within the sizes of a connection table.
+/// The entries of a dictionary, sorted by the bytes of their surfaces. Their ids lie within the
+/// sizes of a connection table.
 #[derive(Drop)]
 pub struct SortedLexicon<'a> {
     pub(crate) sizes: MatrixSizes,
@@ -24,14 +25,14 @@ impl<'a> Model for SortedLexicon<'a> {
 }
 
 impl<'a> SortedLexicon<'a> {
-    /// The sizes that the ids lie within.
+    /// Returns the sizes of the connection table.
     pub fn sizes(&self) -> MatrixSizes
         ensures { result ≡ self.now.sizes }
     {
         self.sizes
     }
 
-    /// The entries.
+    /// Returns the sorted entries.
     pub fn records(&self) -> &[Record<'a>]
         ensures rows { rows_of result.now ≡ self.now.rows }
         ensures formed { AreSortedRows self.now }

@@ -2,7 +2,7 @@
 ghost use Rattle.std.specs.Prelude.{◌≡◌, ℕ, [], length, take, IfOk, IfErr, OnErr, option_map};
 ghost use Rattle.mj_model.specs.declared.source_fault.SourceKind.TheVariants.{IdOutside};
 ghost use Rattle.mj_model.specs.Dictionary.{first_outside};
-ghost use Rattle.mj_model.specs.FirstFault.{IsRefusal};
+ghost use Rattle.mj_model.specs.FirstFault.{IsMemoryOr};
 ghost use Rattle.mj_model.specs.Lexicon.{rows_of};
 ghost use Rattle.lex_source.specs.Lexicons.{AreSortedOf, entries_in};
 ghost use Rattle.lex_source.specs.AddedLexicon.{AddsLexicon, IsLexiconFault};
@@ -14,7 +14,7 @@ use mj_model::{MatrixSizes, Record, SourceFault, SourceKind};
 use std::alloc::{AllocError, Global};
 use std::marker::Model;
 
-/// The entries of lexicons in source order, whose ids lie within the sizes of a connection table.
+/// The entries of lexicons in source order. Their ids lie within the sizes of a connection table.
 #[derive(Drop)]
 pub struct SourceLexicon<'a> {
     sizes: MatrixSizes,
@@ -32,7 +32,7 @@ impl<'a> Model for SourceLexicon<'a> {
 }
 
 impl<'a> SourceLexicon<'a> {
-    /// No entries.
+    /// Returns a lexicon without entries, for a connection table of these sizes.
     pub fn new(alloc: Global, sizes: MatrixSizes) -> SourceLexicon<'a>
         ensures { result ≡ record { sizes = sizes; rows = [] } }
     {
@@ -42,20 +42,23 @@ impl<'a> SourceLexicon<'a> {
         }
     }
 
-    /// How many entries there are.
+    /// Returns the number of entries.
     pub fn len(&self) -> usize
         ensures { result ≡ length self.now.rows }
     {
         self.records.len()
     }
 
-    /// Adds the accepted lines of a lexicon, and answers how many were skipped for their empty surface. `file` is the lexicon's number in a
-    /// fault; what the lines say is looked at before their ids. (MeCab, dic-detail)
+    /// Appends the accepted lines of a lexicon, and returns how many were skipped because their
+    /// surface is empty.
+    ///
+    /// `file` is the lexicon's file number in an error. All lines are checked before any ids. On an
+    /// error nothing changes. (MeCab, dic-detail)
     pub fn add(&mut self, alloc: Global, bytes: &'a [u8], file: u32) -> Result<u64, SourceFault>
         ensures added { IfOk result (AddsLexicon file bytes.now self.old self.new) }
-        ensures refused { IfErr result (λ fault. IsRefusal fault
+        ensures rejected { IfErr result (λ fault. IsMemoryOr fault
             (IsLexiconFault file bytes.now self.old fault)) }
-        ensures kept { OnErr result (self.new ≡ self.old) }
+        ensures unchanged { OnErr result (self.new ≡ self.old) }
     {
         let held = self.records.len();
         let read = append_within(alloc, bytes, file, self.sizes, &mut self.records);
@@ -65,7 +68,8 @@ impl<'a> SourceLexicon<'a> {
         read
     }
 
-    /// The entries in the byte order of their surfaces, those of one surface in their order. On `Err` memory was refused.
+    /// Returns the entries sorted by the bytes of their surfaces. Entries with equal surfaces keep
+    /// their order. Fails only if an allocation fails.
     pub fn sorted(self) -> Result<SortedLexicon<'a>, AllocError>
         ensures { IfOk result (AreSortedOf self.entry) }
     {
@@ -76,7 +80,8 @@ impl<'a> SourceLexicon<'a> {
     }
 }
 
-/// Appends the accepted lines of a lexicon up to the first at fault, then looks at the ids of all that were appended.
+/// Appends the accepted lines of a lexicon up to the first rejected one, then checks the ids of the
+/// appended lines.
 fn append_within<'a>(
     alloc: Global,
     bytes: &'a [u8],
@@ -86,7 +91,7 @@ fn append_within<'a>(
 ) -> Result<u64, SourceFault>
     ensures accepted { IfOk result (AddsLexicon file bytes.now (entries_in sizes records.old.items)
         (entries_in sizes records.new.items)) }
-    ensures refused { IfErr result (λ fault. IsRefusal fault
+    ensures rejected { IfErr result (λ fault. IsMemoryOr fault
         (IsLexiconFault file bytes.now (entries_in sizes records.old.items) fault)) }
     ensures begins { take (length records.old.items) (rows_of records.new.items)
         ≡ rows_of records.old.items }
@@ -99,7 +104,7 @@ fn append_within<'a>(
     }
 }
 
-/// The line of the first record whose ids lie outside the sizes.
+/// Returns the line of the first record whose ids lie outside the sizes.
 fn line_outside(records: &[Record<'_>], sizes: MatrixSizes) -> Option<u64>
     ensures { (file : ℕ) → first_outside file sizes (rows_of records.now)
         ≡ option_map (λ line. record { file = file; line = line; kind = IdOutside }) result }

@@ -4,8 +4,10 @@ ghost use Rattle.mj_model.specs.Lines.{numbered_lines};
 
 use crate::numbered::Lines;
 
-/// The lines of a source file with their numbers from 1, blank ones included. A line ends at LF, the last one also at
-/// the end; one CR before that is left out. (This project's own choice)
+/// Returns the lines of a source file with their numbers from 1, blank lines included.
+///
+/// A line ends at LF, and the last one also at the end of `bytes`. One CR at the end of a line is
+/// dropped. (This project's own choice)
 pub fn lines(bytes: &[u8]) -> Lines<'_>
     ensures { result ≡ numbered_lines bytes.now }
 {

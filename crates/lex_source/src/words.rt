@@ -8,7 +8,7 @@ ghost use Rattle.mj_model.specs.Connection.{words_of};
 use crate::bytes::{blanks_before, is_blank};
 use std::marker::Model;
 
-/// The words of a line that are left: its parts between blanks and tabs.
+/// An iterator over the words of a line: its parts between blanks and tabs.
 #[derive(Drop)]
 pub struct Words<'a> {
     rest: &'a [u8],
@@ -21,7 +21,8 @@ impl<'a> Model for Words<'a> {
 }
 
 impl<'a> Words<'a> {
-    /// The words of a line. (MeCab, `matrix.def` and `char.def`; that a tab separates too is this project's own choice)
+    /// Returns the words of `line`. (MeCab, `matrix.def` and `char.def`; that a tab separates words
+    /// too is this project's own choice)
     pub fn new(line: &'a [u8]) -> Words<'a>
         ensures { result ≡ words_of line.now }
     {
@@ -50,7 +51,7 @@ impl<'a> Iterator for Words<'a> {
     }
 }
 
-/// The first word of a line, and what follows it.
+/// Returns the first word of a line, and the bytes after it.
 fn first_word(line: &[u8]) -> Option<(&[u8], &[u8])>
     ensures { MatchOption result (words_of line.now ≡ [])
         (λ parts. words_of line.now ≡ parts.0.now ∷ words_of parts.1.now) }
@@ -63,7 +64,7 @@ fn first_word(line: &[u8]) -> Option<(&[u8], &[u8])>
     Some((&text[..end], &text[end..]))
 }
 
-/// Where the first blank or tab stands, or the length.
+/// Returns the position of the first blank or tab, or the length if there is none.
 fn word_end(text: &[u8]) -> usize
     ensures at { result ≡ position_or_len is_blank_byte text.now }
     ensures within { result ≤ length text.now }

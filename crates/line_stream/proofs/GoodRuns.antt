@@ -1,26 +1,28 @@
--- Where nothing fails, a run answers Ok or Memory: each other answer has a cause.
+-- If nothing fails, a run returns Ok or Memory: each other error has a cause.
 use Rattle.std.proofs.Common.{◌≡◌, ℕ, ◌+◌, ◌≤◌, ◌<◌, Bool, true, false, cond, List, [], ◌∷◌, ◌++◌, length, All, refl, sym, ap, ◌∙◌, subst, arith, append_assoc, append-nil, length-append, inl, inr}
-use Rattle.std.specs.Prelude.{Option, Some, None, Result, Ok, Err, nat_lt}
+use Rattle.std.specs.Prelude.{Option, Some, None, Result, Err, nat_lt}
 use Rattle.std.proofs.lemmas.List.Elements.{All-head, All-tail, All-cons, All-nil, All-append}
 use Rattle.std.proofs.lemmas.Bool.{le-ltb}
 use Rattle.std.specs.List.{slice_split, onto_first}
 use Rattle.std.specs.Io.KnownBytes.{Consumes, IsAtEnd}
-use Rattle.mj_model.specs.Counts.{ReaderTold, WriterTold}
+use Rattle.mj_model.specs.Counts.{ReaderState, WriterState}
 use Rattle.mj_model.specs.declared.limits.TheConstants.{SENTENCE_MAX}
-use Rattle.mj_model.specs.declared.run_fault.RunFault.{RunFault}
-use Rattle.mj_model.specs.declared.run_fault.RunFault.TheVariants as run
 use Rattle.mj_model.specs.Bytes.{is_line_feed}
 use Rattle.mj_model.specs.Lines.{without_last_empty}
 use Rattle.mj_model.specs.Output.{Output, BadLine, text_lines}
-use Rattle.mj_model.specs.TextLines.{whole_lines, open_line}
+use Rattle.mj_model.specs.TextLines.{complete_lines, unfinished_line}
 use Rattle.line_stream.specs.declared.line_fault.LineFault.{LineFault}
 use Rattle.line_stream.specs.declared.line_fault.LineFault.TheVariants.{TooLong, NotUtf8}
+use Rattle.line_stream.specs.declared.line_fault.LineError.TheVariants.{Bad, Memory}
+use Rattle.line_stream.specs.declared.line_fault.StreamFault.{StreamFault}
+use Rattle.line_stream.specs.declared.line_fault.StreamFault.TheVariants as stream
 use Rattle.line_stream.specs.GoodRuns.{EndsWithin, NothingFails, IsOkOrMemory}
 use Rattle.line_stream.specs.GoodLines.{IsGood}
-use Rattle.line_stream.specs.Progress.{HasNoFeed}
-use Rattle.line_stream.specs.Runs.{BoundPassed, Ran, both_told, has_ended, lines_read}
+use Rattle.line_stream.specs.LineErrors.{run_fault}
+use Rattle.line_stream.specs.StreamState.{HasNoFeed}
+use Rattle.line_stream.specs.Runs.{BoundPassed, StreamOutcome, run_state, has_ended, lines_read}
 use Rattle.line_stream.specs.Steps.{last_line}
-use Rattle.line_stream.proofs.PieceLemmas.{split_cons, whole_lines-append, open_line-append}
+use Rattle.line_stream.proofs.PieceLemmas.{split_cons, complete_lines-append, unfinished_line-append}
 use Rattle.line_stream.proofs.RunWork.{text_lines-parts, open_no_feed}
 
 -- ---- parts of a list of good lines
@@ -33,19 +35,19 @@ back_all : (P : List ℕ → Type 0) (xs ys : List (List ℕ)) → All P (xs ++ 
 back_all P [] ys h = h
 back_all P (x ∷ xs) ys h = back_all P xs ys (All-tail P x (xs ++ ys) h)
 
--- ---- a text is the whole lines of a front, and the lines of what stands behind them
+-- ---- a text is the complete lines of a prefix, and the lines of what follows
 
-pub text_lines-behind : (bytes rest : List ℕ) → text_lines (bytes ++ rest) ≡ whole_lines bytes ++ text_lines (open_line bytes ++ rest)
-text_lines-behind bytes rest =
+pub text_lines-following : (bytes rest : List ℕ) → text_lines (bytes ++ rest) ≡ complete_lines bytes ++ text_lines (unfinished_line bytes ++ rest)
+text_lines-following bytes rest =
     let all = bytes ++ rest in
-    let behind = open_line bytes ++ rest in
+    let following = unfinished_line bytes ++ rest in
     text_lines-parts all
-    ∙ ap (λ z. z ++ last_line (open_line all)) (whole_lines-append bytes rest)
-    ∙ ap (λ o. (whole_lines bytes ++ whole_lines behind) ++ last_line o) (open_line-append bytes rest)
-    ∙ append_assoc (whole_lines bytes) (whole_lines behind) (last_line (open_line behind))
-    ∙ ap (λ z. whole_lines bytes ++ z) (sym (text_lines-parts behind))
+    ∙ ap (λ z. z ++ last_line (unfinished_line all)) (complete_lines-append bytes rest)
+    ∙ ap (λ o. (complete_lines bytes ++ complete_lines following) ++ last_line o) (unfinished_line-append bytes rest)
+    ∙ append_assoc (complete_lines bytes) (complete_lines following) (last_line (unfinished_line following))
+    ∙ ap (λ z. complete_lines bytes ++ z) (sym (text_lines-parts following))
 
--- the first piece of bytes goes on over a front without an LF
+-- the first piece of bytes extends over a prefix without an LF
 record GoesOn (front rest : List ℕ) : Type 0 where
   first : List ℕ
   more : List (List ℕ)
@@ -79,14 +81,14 @@ front_short (c ∷ cs) rest none good =
     let total = length-append (c ∷ cs) next.first in
     omega (arith, short, total)
 
--- what is read of a good text has no line that is too long
-open_short : (bytes rest : List ℕ) → All IsGood (text_lines (bytes ++ rest)) → length (open_line bytes) ≤ SENTENCE_MAX
-open_short bytes rest good = front_short (open_line bytes) rest (open_no_feed bytes)
-    (back_all IsGood (whole_lines bytes) (text_lines (open_line bytes ++ rest)) (subst (λ ls. All IsGood ls) (text_lines-behind bytes rest) good))
+-- no line of what is read of a valid text is too long
+open_short : (bytes rest : List ℕ) → All IsGood (text_lines (bytes ++ rest)) → length (unfinished_line bytes) ≤ SENTENCE_MAX
+open_short bytes rest good = front_short (unfinished_line bytes) rest (open_no_feed bytes)
+    (back_all IsGood (complete_lines bytes) (text_lines (unfinished_line bytes ++ rest)) (subst (λ ls. All IsGood ls) (text_lines-following bytes rest) good))
 
-whole_good : (bytes rest : List ℕ) → All IsGood (text_lines (bytes ++ rest)) → All IsGood (whole_lines bytes)
+whole_good : (bytes rest : List ℕ) → All IsGood (text_lines (bytes ++ rest)) → All IsGood (complete_lines bytes)
 whole_good bytes rest good =
-    front_all IsGood (whole_lines bytes) (text_lines (open_line bytes ++ rest)) (subst (λ ls. All IsGood ls) (text_lines-behind bytes rest) good)
+    front_all IsGood (complete_lines bytes) (text_lines (unfinished_line bytes ++ rest)) (subst (λ ls. All IsGood ls) (text_lines-following bytes rest) good)
 
 read_good : (ended : Bool) (bytes rest : List ℕ) → (ended ≡ true → rest ≡ []) → All IsGood (text_lines (bytes ++ rest)) → All IsGood (lines_read ended bytes)
 read_good true bytes rest none good = subst (λ bs. All IsGood (text_lines bs)) (ap (λ r. bytes ++ r) (none refl) ∙ append-nil bytes) good
@@ -106,10 +108,10 @@ last_short (c ∷ cs) h = All-cons IsShort (c ∷ cs) [] h (All-nil IsShort)
 read_short : (bytes rest : List ℕ) → All IsGood (text_lines (bytes ++ rest)) → All IsShort (text_lines bytes)
 read_short bytes rest good =
     subst (λ ls. All IsShort ls) (sym (text_lines-parts bytes))
-    (All-append IsShort (whole_lines bytes) (last_line (open_line bytes)) (good_short (whole_lines bytes) (whole_good bytes rest good))
-    (last_short (open_line bytes) (open_short bytes rest good)))
+    (All-append IsShort (complete_lines bytes) (last_line (unfinished_line bytes)) (good_short (complete_lines bytes) (whole_good bytes rest good))
+    (last_short (unfinished_line bytes) (open_short bytes rest good)))
 
--- ---- what is left of a told text
+-- ---- the remainder of a known text
 
 record Cut (text bytes : List ℕ) (left : Option (List ℕ)) : Type 0 where
   rest : List ℕ
@@ -125,7 +127,7 @@ cut_text None after text bytes e h = absurd (cc)
 cut_text (Some xs) None text bytes e h = absurd h
 cut_text (Some xs) (Some ys) text bytes e h = let same : xs ≡ text = ap (some_or []) e in record { rest = ys; parts = sym same ∙ h; none = λ at_end. at_end }
 
--- ---- a bad line among good ones
+-- ---- an invalid line among valid ones
 
 module _ (T : List ℕ → Result (List ℕ) LineFault → Type 0)
     (not_good : (line : List ℕ) (fault : LineFault) → T line (Err fault) → IsGood line → ⊥)
@@ -136,7 +138,7 @@ module _ (T : List ℕ → Result (List ℕ) LineFault → Type 0)
   none_bad n (x ∷ xs) out bad good (inr h) = none_bad (n + 1) xs h.1 bad (All-tail IsGood x xs good) h.3
 
   too_long_is : (line : List ℕ) (fault : LineFault) → fault ≡ TooLong → T line (Err fault) → SENTENCE_MAX < length line
-  too_long_is line fault e tells = too_long line (subst (λ x. T line (Err x)) e tells)
+  too_long_is line fault e reports = too_long line (subst (λ x. T line (Err x)) e reports)
 
   abbrev fault_or : LineFault → Option (BadLine LineFault) → LineFault
   fault_or other None = other
@@ -152,41 +154,38 @@ module _ (T : List ℕ → Result (List ℕ) LineFault → Type 0)
       absurd (omega (arith, long, low))
   none_too_long n (x ∷ xs) out bad e short (inr h) = none_too_long (n + 1) xs h.1 bad e (All-tail IsShort x xs short) h.3
 
-  -- ---- reads that came to no end
+  -- ---- reads that did not meet the end
 
-  -- each gave a byte at least, and none met the end
-  too_many_reads : (bound : ℕ) (from to : ReaderTold) (before after : WriterTold) (text bytes rest : List ℕ) → text ≡ bytes ++ rest
-      → BoundPassed bound bytes (both_told from before) (both_told to after) → to.ends ≡ from.ends
-      → EndsWithin bound text (both_told from before) (both_told to after) → ⊥
+  -- each returned a byte at least, and none met the end
+  too_many_reads : (bound : ℕ) (from to : ReaderState) (before after : WriterState) (text bytes rest : List ℕ) → text ≡ bytes ++ rest
+      → BoundPassed bound bytes (run_state from before) (run_state to after) → to.ends ≡ from.ends
+      → EndsWithin bound text (run_state from before) (run_state to after) → ⊥
   too_many_reads bound from to before after text bytes rest parts passed no_end (inl few) =
       let all = ap length parts ∙ length-append bytes rest in let gave = passed.gave in omega (arith, few, all, gave)
   too_many_reads bound from to before after text bytes rest parts passed no_end (inr ends) =
       let ended = ends passed.reads in
-      let not_ended : has_ended (both_told from before) (both_told to after) ≡ false = ap (λ n. nat_lt from.ends n) no_end ∙ le-ltb from.ends from.ends (omega arith) in
+      let not_ended : has_ended (run_state from before) (run_state to after) ≡ false = ap (λ n. nat_lt from.ends n) no_end ∙ le-ltb from.ends from.ends (omega arith) in
       let clash : true ≡ false = sym ended ∙ not_ended in cc
 
-  -- ---- the answer
+  -- ---- the error of the stream
 
-  pub good_run : (bound : ℕ) (from to : ReaderTold) (before after : WriterTold) (result : Result ℕ RunFault)
-      → Ran T bound from to before after result → NothingFails bound from to before after → IsOkOrMemory result
-  good_run bound from to before after (Ok lines) ran g = tt
-  good_run bound from to before after (Err (run.Source fault)) ran g = ran.ends
-  good_run bound from to before after (Err (run.UserSource i fault)) ran g = ran.ends
-  good_run bound from to before after (Err (run.Read line)) ran g =
+  pub good_run : (bound : ℕ) (from to : ReaderState) (before after : WriterState) (fault : StreamFault)
+      → StreamOutcome T bound from to before after (Err fault) → NothingFails bound from to before after → IsOkOrMemory (Err (run_fault fault))
+  good_run bound from to before after (stream.Read line) ran g =
       let failed = ran.ends.1.one_read in let none = g.no_failure.no_read in absurd (omega (arith, failed, none))
-  good_run bound from to before after (Err (run.Write sent)) ran g =
+  good_run bound from to before after (stream.Write sent) ran g =
       let failed = ran.ends.1.one_write in let none = g.no_failure.no_write in absurd (omega (arith, failed, none))
-  good_run bound from to before after (Err (run.NotUtf8 line)) ran g =
-      let ended = has_ended (both_told from before) (both_told to after) in
-      let cut = cut_text from.left to.left g.text ran.bytes g.told ran.read in
-      let good = subst (λ t. All IsGood (text_lines t)) cut.parts g.good in
+  good_run bound from to before after (stream.Line line (Bad NotUtf8)) ran g =
+      let ended = has_ended (run_state from before) (run_state to after) in
+      let split_at_feed = cut_text from.left to.left g.text ran.bytes g.reported ran.read in
+      let good = subst (λ t. All IsGood (text_lines t)) split_at_feed.parts g.good in
       none_bad 1 (lines_read ended ran.bytes) ran.written (record { number = line; fault = NotUtf8 })
-      (read_good ended ran.bytes cut.rest (λ e. cut.none (ran.to_the_end e)) good) ran.ends.0
-  good_run bound from to before after (Err (run.TooLong line)) ran g =
-      let cut = cut_text from.left to.left g.text ran.bytes g.told ran.read in
-      let good = subst (λ t. All IsGood (text_lines t)) cut.parts g.good in
+      (read_good ended ran.bytes split_at_feed.rest (λ e. split_at_feed.none (ran.to_the_end e)) good) ran.ends.0
+  good_run bound from to before after (stream.Line line (Bad TooLong)) ran g =
+      let split_at_feed = cut_text from.left to.left g.text ran.bytes g.reported ran.read in
+      let good = subst (λ t. All IsGood (text_lines t)) split_at_feed.parts g.good in
       none_too_long 1 (text_lines ran.bytes) ran.written (record { number = line; fault = TooLong }) refl
-      (read_short ran.bytes cut.rest good) ran.ends.0
-  good_run bound from to before after (Err (run.InputTooLong line)) ran g =
-      let cut = cut_text from.left to.left g.text ran.bytes g.told ran.read in too_many_reads bound from to before after g.text ran.bytes cut.rest cut.parts ran.ends.1 ran.ends.0.no_end g.ends
-  good_run bound from to before after (Err (run.Memory line)) ran g = tt
+      (read_short ran.bytes split_at_feed.rest good) ran.ends.0
+  good_run bound from to before after (stream.InputTooLong line) ran g =
+      let split_at_feed = cut_text from.left to.left g.text ran.bytes g.reported ran.read in too_many_reads bound from to before after g.text ran.bytes split_at_feed.rest split_at_feed.parts ran.ends.1 ran.ends.0.no_end g.ends
+  good_run bound from to before after (stream.Line line Memory) ran g = tt

@@ -1,5 +1,5 @@
 pub mod PieceLemmas
-pub mod PrintedBehind
+pub mod PrintedAfter
 pub mod PieceWork
 pub mod ResultLemmas
 pub mod BadLines

@@ -1,10 +1,10 @@
--- Lines of bytes that come in two parts: whole lines, and what stands behind the last LF.
+-- Lines of bytes that come in two parts: the complete lines, and the bytes after the last LF.
 use Rattle.std.proofs.Common.{◌≡◌, ℕ, Bool, true, false, cond, List, [], ◌∷◌, ◌++◌, refl, sym, ap, ◌∙◌}
 use Rattle.std.specs.List.{slice_split, onto_first}
 use Rattle.std.proofs.lemmas.List.Splits.{slice_split_none, slice_split_at}
 use Rattle.mj_model.specs.Bytes.{is_line_feed}
-use Rattle.mj_model.specs.TextLines.{all_but_last, last_piece, whole_lines, open_line}
-use Rattle.line_stream.specs.Progress.{HasNoFeed}
+use Rattle.mj_model.specs.TextLines.{all_but_last, last_piece, complete_lines, unfinished_line}
+use Rattle.line_stream.specs.StreamState.{HasNoFeed}
 
 -- ---- the parts of a split
 
@@ -25,7 +25,7 @@ pub split_cons : (bytes : List ℕ) → IsCons (slice_split is_line_feed bytes)
 split_cons [] = record { first = []; more = []; is = refl }
 split_cons (c ∷ cs) = split_step (is_line_feed c) c (slice_split is_line_feed cs)
 
--- ---- lists of parts, behind others
+-- ---- lists of parts, after others
 
 pub last_behind : (xs : List ℕ) (xss : List (List ℕ)) → IsCons xss → last_piece (xs ∷ xss) ≡ last_piece xss
 last_behind xs xss c = ap (λ z. last_piece (xs ∷ z)) c.is ∙ sym (ap last_piece c.is)
@@ -45,7 +45,8 @@ last-append : (xss yss : List (List ℕ)) → IsCons yss → last_piece (xss ++ 
 last-append [] yss c = refl
 last-append (xs ∷ xss) yss c = last_behind xs (xss ++ yss) (append_cons xss yss c) ∙ last-append xss yss c
 
--- ---- a split of two parts: the whole lines of the first, and then the split of its open line with the second
+-- ---- a split of two parts: the complete lines of the first, and then the split of its unfinished
+-- line with the second
 
 glued : (b : Bool) (c : ℕ) (ys : List ℕ) (xss : List (List ℕ)) → IsCons xss → is_line_feed c ≡ b
     → cond b ([] ∷ (all_but_last xss ++ slice_split is_line_feed (last_piece xss ++ ys))) (onto_first c (all_but_last xss ++ slice_split is_line_feed (last_piece xss ++ ys)))
@@ -64,22 +65,22 @@ split-append (c ∷ cs) ys =
     ap (λ z. cond (is_line_feed c) ([] ∷ z) (onto_first c z)) (split-append cs ys)
     ∙ glued (is_line_feed c) c ys (slice_split is_line_feed cs) (split_cons cs) refl
 
-pub whole_lines-append : (xs ys : List ℕ) → whole_lines (xs ++ ys) ≡ whole_lines xs ++ whole_lines (open_line xs ++ ys)
-whole_lines-append xs ys = ap all_but_last (split-append xs ys) ∙ whole-append (whole_lines xs) (slice_split is_line_feed (open_line xs ++ ys)) (split_cons (open_line xs ++ ys))
+pub complete_lines-append : (xs ys : List ℕ) → complete_lines (xs ++ ys) ≡ complete_lines xs ++ complete_lines (unfinished_line xs ++ ys)
+complete_lines-append xs ys = ap all_but_last (split-append xs ys) ∙ whole-append (complete_lines xs) (slice_split is_line_feed (unfinished_line xs ++ ys)) (split_cons (unfinished_line xs ++ ys))
 
-pub open_line-append : (xs ys : List ℕ) → open_line (xs ++ ys) ≡ open_line (open_line xs ++ ys)
-open_line-append xs ys = ap last_piece (split-append xs ys) ∙ last-append (whole_lines xs) (slice_split is_line_feed (open_line xs ++ ys)) (split_cons (open_line xs ++ ys))
+pub unfinished_line-append : (xs ys : List ℕ) → unfinished_line (xs ++ ys) ≡ unfinished_line (unfinished_line xs ++ ys)
+unfinished_line-append xs ys = ap last_piece (split-append xs ys) ∙ last-append (complete_lines xs) (slice_split is_line_feed (unfinished_line xs ++ ys)) (split_cons (unfinished_line xs ++ ys))
 
 -- ---- bytes without an LF, and with one
 
-pub whole_lines-none : (xs : List ℕ) → HasNoFeed xs → whole_lines xs ≡ []
-whole_lines-none xs h = ap all_but_last (slice_split_none is_line_feed xs h)
+pub complete_lines-none : (xs : List ℕ) → HasNoFeed xs → complete_lines xs ≡ []
+complete_lines-none xs h = ap all_but_last (slice_split_none is_line_feed xs h)
 
-pub open_line-none : (xs : List ℕ) → HasNoFeed xs → open_line xs ≡ xs
-open_line-none xs h = ap last_piece (slice_split_none is_line_feed xs h)
+pub unfinished_line-none : (xs : List ℕ) → HasNoFeed xs → unfinished_line xs ≡ xs
+unfinished_line-none xs h = ap last_piece (slice_split_none is_line_feed xs h)
 
-pub whole_lines-cut : (xs : List ℕ) (c : ℕ) (ys : List ℕ) → HasNoFeed xs → is_line_feed c ≡ true → whole_lines (xs ++ c ∷ ys) ≡ xs ∷ whole_lines ys
-whole_lines-cut xs c ys h e = ap all_but_last (slice_split_at is_line_feed xs c ys h e) ∙ whole_behind xs (slice_split is_line_feed ys) (split_cons ys)
+pub complete_lines-split_at_feed : (xs : List ℕ) (c : ℕ) (ys : List ℕ) → HasNoFeed xs → is_line_feed c ≡ true → complete_lines (xs ++ c ∷ ys) ≡ xs ∷ complete_lines ys
+complete_lines-split_at_feed xs c ys h e = ap all_but_last (slice_split_at is_line_feed xs c ys h e) ∙ whole_behind xs (slice_split is_line_feed ys) (split_cons ys)
 
-pub open_line-cut : (xs : List ℕ) (c : ℕ) (ys : List ℕ) → HasNoFeed xs → is_line_feed c ≡ true → open_line (xs ++ c ∷ ys) ≡ open_line ys
-open_line-cut xs c ys h e = ap last_piece (slice_split_at is_line_feed xs c ys h e) ∙ last_behind xs (slice_split is_line_feed ys) (split_cons ys)
+pub unfinished_line-split_at_feed : (xs : List ℕ) (c : ℕ) (ys : List ℕ) → HasNoFeed xs → is_line_feed c ≡ true → unfinished_line (xs ++ c ∷ ys) ≡ unfinished_line ys
+unfinished_line-split_at_feed xs c ys h e = ap last_piece (slice_split_at is_line_feed xs c ys h e) ∙ last_behind xs (slice_split is_line_feed ys) (split_cons ys)

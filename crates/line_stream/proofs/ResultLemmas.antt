@@ -11,7 +11,8 @@ pub on_ok_by : {T E : Type 0} (r : Result T E) (P Q : Type 0) → (P → Q) → 
 on_ok_by (Ok x) P Q f p = f p
 on_ok_by (Err e) P Q f p = tt
 
--- what an outcome only adds to, or leaves as it is, begins as before
+-- if one outcome appends and the other leaves the list unchanged, the old list is a prefix of the
+-- new one
 pub front_kept : {T E : Type 0} (r : Result T E) (Is : List ℕ → Type 0) (n : ℕ) (old new : List ℕ) → n ≡ length old
     → OnOk r ((more : List ℕ) × Is more × (new ≡ old ++ more)) → OnErr r (new ≡ old) → take n new ≡ old
 front_kept (Ok x) Is n old new long grown same = ap (take n) grown.2 ∙ take_at old grown.0 n (sym long)

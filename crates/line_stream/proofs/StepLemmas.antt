@@ -1,30 +1,30 @@
--- Steps one behind another: what they print and write joins, and a step that stops behind others stops them all.
+-- Consecutive steps: their lines, output and writes concatenate, and if the later step stops, the
+-- whole stops.
 use Rattle.std.proofs.Common.{◌≡◌, ℕ, ◌+◌, ◌≤◌, List, [], ◌++◌, length, take, drop, refl, sym, ap, ◌∙◌, subst, arith, append_assoc, append-nil, take-append-drop, length-append, length-take, inl, inr}
 use Rattle.std.specs.Prelude.{None, Result, Ok, Err, OnErr, IfErr}
 use Rattle.std.specs.Io.KnownBytes.{Appends}
 use Rattle.std.proofs.KnownBytes.{Appends-nil, Appends-trans}
-use Rattle.mj_model.specs.Counts.{WriterTold}
-use Rattle.mj_model.specs.declared.run_fault.RunFault.{RunFault}
-use Rattle.mj_model.specs.declared.run_fault.RunFault.TheVariants as run
-use Rattle.line_stream.specs.LineErrors.{run_fault}
+use Rattle.mj_model.specs.Counts.{WriterState}
+use Rattle.line_stream.specs.declared.line_fault.StreamFault.{StreamFault}
+use Rattle.line_stream.specs.declared.line_fault.StreamFault.TheVariants as stream
 use Rattle.line_stream.specs.declared.line_fault.LineFault.{LineFault}
 use Rattle.line_stream.specs.declared.line_fault.LineError.{LineError}
-use Rattle.line_stream.specs.Progress.{AllPrint, Worked}
+use Rattle.line_stream.specs.StreamState.{AllPrint, Processed}
 use Rattle.line_stream.specs.Steps.{Advanced, StepStopped, EndStopped, Stepped, WaitingStopped, step_of}
-use Rattle.line_stream.proofs.PrintedBehind.{print_append}
+use Rattle.line_stream.proofs.PrintedAfter.{print_append}
 
--- what a write of `out` leaves that fails behind some bytes
-abbrev pub IsCutWrite : WriterTold → WriterTold → List ℕ → ℕ → RunFault → Type 0
+-- the state after a write of `out` that fails after some bytes
+abbrev pub IsCutWrite : WriterState → WriterState → List ℕ → ℕ → StreamFault → Type 0
 IsCutWrite t0 t1 out sent fault =
-    (n : ℕ) × (n ≤ length out) × Appends t0.held t1.held (take n out) × (fault ≡ run.Write (sent + n))
+    (n : ℕ) × (n ≤ length out) × Appends t0.held t1.held (take n out) × (fault ≡ stream.Write (sent + n))
 
-module _ (Tells : List ℕ → Result (List ℕ) LineFault → Type 0) where
+module _ (Reports : List ℕ → Result (List ℕ) LineFault → Type 0) where
   -- ---- one step
 
   -- nothing was written
-  pub waits_on : (before : ℕ) (waited : List ℕ) (lines : List (List ℕ)) (after : ℕ) (waits text : List ℕ) (t : WriterTold) (sent : ℕ)
-      → AllPrint Tells (before + 1) lines text → after ≡ before + length lines → waits ≡ waited ++ text
-      → Advanced Tells before waited lines after waits (step_of t t) sent sent
+  pub waits_on : (before : ℕ) (waited : List ℕ) (lines : List (List ℕ)) (after : ℕ) (waits text : List ℕ) (t : WriterState) (sent : ℕ)
+      → AllPrint Reports (before + 1) lines text → after ≡ before + length lines → waits ≡ waited ++ text
+      → Advanced Reports before waited lines after waits (step_of t t) sent sent
   waits_on before waited lines after waits text t sent print counted e =
       record {
         text = text;
@@ -38,10 +38,10 @@ module _ (Tells : List ℕ → Result (List ℕ) LineFault → Type 0) where
       }
 
   -- all was written
-  pub all_written : (before : ℕ) (waited : List ℕ) (lines : List (List ℕ)) (after : ℕ) (out waits text : List ℕ) (t0 t1 : WriterTold) (sent0 sent1 : ℕ)
-      → AllPrint Tells (before + 1) lines text → after ≡ before + length lines → out ≡ waited ++ text
+  pub all_written : (before : ℕ) (waited : List ℕ) (lines : List (List ℕ)) (after : ℕ) (out waits text : List ℕ) (t0 t1 : WriterState) (sent0 sent1 : ℕ)
+      → AllPrint Reports (before + 1) lines text → after ≡ before + length lines → out ≡ waited ++ text
       → Appends t0.held t1.held out → sent1 ≡ sent0 + length out → waits ≡ [] → t1.failures ≡ t0.failures
-      → Advanced Tells before waited lines after waits (step_of t0 t1) sent0 sent1
+      → Advanced Reports before waited lines after waits (step_of t0 t1) sent0 sent1
   all_written before waited lines after out waits text t0 t1 sent0 sent1 print counted e wrote sent none no_failure =
       record {
         text = text;
@@ -54,19 +54,19 @@ module _ (Tells : List ℕ → Result (List ℕ) LineFault → Type 0) where
         no_failure = no_failure;
       }
 
-  -- a front was written of what the first of the lines print
-  pub cut_stopped : (Cause : List (List ℕ) → LineError → Type 0) (before : ℕ) (waited : List ℕ) (lines done more : List (List ℕ)) (out text : List ℕ) (t0 t1 : WriterTold) (sent : ℕ) (fault : RunFault)
-      → lines ≡ done ++ more → AllPrint Tells (before + 1) done text → out ≡ waited ++ text
+  -- a prefix was written of the output of the first lines
+  pub cut_stopped : (Cause : List (List ℕ) → LineError → Type 0) (before : ℕ) (waited : List ℕ) (lines done more : List (List ℕ)) (out text : List ℕ) (t0 t1 : WriterState) (sent : ℕ) (fault : StreamFault)
+      → lines ≡ done ++ more → AllPrint Reports (before + 1) done text → out ≡ waited ++ text
       → IsCutWrite t0 t1 out sent fault → t1.failures ≡ t0.failures + 1
-      → StepStopped Tells Cause before waited lines (step_of t0 t1) sent fault
-  cut_stopped Cause before waited lines done more out text t0 t1 sent fault first print e cut failure =
-      let n = cut.0 in
+      → StepStopped Reports Cause before waited lines (step_of t0 t1) sent fault
+  cut_stopped Cause before waited lines done more out text t0 t1 sent fault first print e truncated failure =
+      let n = truncated.0 in
       let len = length-take n out in
-      let low = cut.1 in
+      let low = truncated.1 in
       inl (record {
         written = take n out;
-        wrote = cut.2;
-        cut = record {
+        wrote = truncated.2;
+        truncated = record {
           done = done;
           more = more;
           text = text;
@@ -75,22 +75,22 @@ module _ (Tells : List ℕ → Result (List ℕ) LineFault → Type 0) where
           print = print;
           front = sym e ∙ sym (take-append-drop n out);
         };
-        fault_is = cut.3 ∙ ap (λ k. run.Write (sent + k)) {x = n} {y = length (take n out)} (omega (arith, len, low));
+        fault_is = truncated.3 ∙ ap (λ k. stream.Write (sent + k)) {x = n} {y = length (take n out)} (omega (arith, len, low));
         failure = failure;
       })
 
-  pub if_cut : (result : Result (Unit {0}) RunFault) (Cause : List (List ℕ) → LineError → Type 0) (before : ℕ) (waited : List ℕ) (lines : List (List ℕ)) (out text : List ℕ) (t0 t1 : WriterTold) (sent : ℕ)
-      → AllPrint Tells (before + 1) lines text → out ≡ waited ++ text
+  pub if_cut : (result : Result (Unit {0}) StreamFault) (Cause : List (List ℕ) → LineError → Type 0) (before : ℕ) (waited : List ℕ) (lines : List (List ℕ)) (out text : List ℕ) (t0 t1 : WriterState) (sent : ℕ)
+      → AllPrint Reports (before + 1) lines text → out ≡ waited ++ text
       → IfErr result (IsCutWrite t0 t1 out sent) → OnErr result (t1.failures ≡ t0.failures + 1)
-      → IfErr result (StepStopped Tells Cause before waited lines (step_of t0 t1) sent)
-  if_cut (Ok x) Cause before waited lines out text t0 t1 sent print e cut failure = tt
-  if_cut (Err fault) Cause before waited lines out text t0 t1 sent print e cut failure =
-      cut_stopped Cause before waited lines lines [] out text t0 t1 sent fault (sym (append-nil lines)) print e cut failure
+      → IfErr result (StepStopped Reports Cause before waited lines (step_of t0 t1) sent)
+  if_cut (Ok x) Cause before waited lines out text t0 t1 sent print e truncated failure = tt
+  if_cut (Err fault) Cause before waited lines out text t0 t1 sent print e truncated failure =
+      cut_stopped Cause before waited lines lines [] out text t0 t1 sent fault (sym (append-nil lines)) print e truncated failure
 
   -- an error stopped the work before a line printed
-  pub error_stopped : (Cause : List (List ℕ) → LineError → Type 0) (before : ℕ) (waited : List ℕ) (lines : List (List ℕ)) (error : LineError) (t0 t1 : WriterTold) (sent : ℕ) (fault : RunFault)
+  pub error_stopped : (Cause : List (List ℕ) → LineError → Type 0) (before : ℕ) (waited : List ℕ) (lines : List (List ℕ)) (error : LineError) (t0 t1 : WriterState) (sent : ℕ) (fault : StreamFault)
       → WaitingStopped waited error (before + 1) (step_of t0 t1) sent fault → Cause [] error
-      → StepStopped Tells Cause before waited lines (step_of t0 t1) sent fault
+      → StepStopped Reports Cause before waited lines (step_of t0 t1) sent fault
   error_stopped Cause before waited lines error t0 t1 sent fault (inl s) cause =
       cut_stopped Cause before waited lines [] lines waited [] t0 t1 sent fault refl (refl, refl) (sym (append-nil waited)) (s.0, s.1, s.2, s.3) s.4
   error_stopped Cause before waited lines error t0 t1 sent fault (inr s) cause =
@@ -100,36 +100,36 @@ module _ (Tells : List ℕ → Result (List ℕ) LineFault → Type 0) where
         done = [];
         print = (refl, refl);
         error = error;
-        fault_is = s.0 ∙ ap (λ k. run_fault error k) {x = before + 1} {y = before + 0 + 1} (omega arith);
+        fault_is = s.0 ∙ ap (λ k. stream.Line k error) {x = before + 1} {y = before + 0 + 1} (omega arith);
         cause = cause;
         no_failure = s.2;
       })
 
-  -- ---- a step behind others
+  -- ---- a step after others
 
-  -- what waits between them is written by the second or waits on
+  -- output that waits between them is written by the second step or keeps waiting
   seam : (waited text0 written0 mid text1 written1 waits : List ℕ) → waited ++ text0 ≡ written0 ++ mid → mid ++ text1 ≡ written1 ++ waits
       → waited ++ (text0 ++ text1) ≡ (written0 ++ written1) ++ waits
   seam waited text0 written0 mid text1 written1 waits first second =
       sym (append_assoc waited text0 text1) ∙ ap (λ z. z ++ text1) first ∙ append_assoc written0 mid text1
       ∙ ap (λ z. written0 ++ z) second ∙ sym (append_assoc written0 written1 waits)
 
-  print_next : (before mid : ℕ) (first second : List (List ℕ)) (text0 text1 : List ℕ) → mid ≡ before + length first
-      → AllPrint Tells (before + 1) first text0 → AllPrint Tells (mid + 1) second text1 → AllPrint Tells (before + 1) (first ++ second) (text0 ++ text1)
-  print_next before mid first second text0 text1 counted print0 print1 =
-      print_append Tells (before + 1) first second text0 text1 None print0
-      (subst (λ m. AllPrint Tells m second text1) {x = mid + 1} {y = before + 1 + length first} (omega (arith, counted)) print1)
+  print_next_line : (before mid : ℕ) (first second : List (List ℕ)) (text0 text1 : List ℕ) → mid ≡ before + length first
+      → AllPrint Reports (before + 1) first text0 → AllPrint Reports (mid + 1) second text1 → AllPrint Reports (before + 1) (first ++ second) (text0 ++ text1)
+  print_next_line before mid first second text0 text1 counted print0 print1 =
+      print_append Reports (before + 1) first second text0 text1 None print0
+      (subst (λ m. AllPrint Reports m second text1) {x = mid + 1} {y = before + 1 + length first} (omega (arith, counted)) print1)
 
-  pub advanced_on : (before : ℕ) (waited : List ℕ) (first : List (List ℕ)) (mid : ℕ) (between : List ℕ) (second : List (List ℕ)) (after : ℕ) (waits : List ℕ) (t0 t1 t2 : WriterTold) (sent0 sent1 sent2 : ℕ)
-      → Advanced Tells before waited first mid between (step_of t0 t1) sent0 sent1 → Advanced Tells mid between second after waits (step_of t1 t2) sent1 sent2
-      → Advanced Tells before waited (first ++ second) after waits (step_of t0 t2) sent0 sent2
+  pub advanced_on : (before : ℕ) (waited : List ℕ) (first : List (List ℕ)) (mid : ℕ) (between : List ℕ) (second : List (List ℕ)) (after : ℕ) (waits : List ℕ) (t0 t1 t2 : WriterState) (sent0 sent1 sent2 : ℕ)
+      → Advanced Reports before waited first mid between (step_of t0 t1) sent0 sent1 → Advanced Reports mid between second after waits (step_of t1 t2) sent1 sent2
+      → Advanced Reports before waited (first ++ second) after waits (step_of t0 t2) sent0 sent2
   advanced_on before waited first mid between second after waits t0 t1 t2 sent0 sent1 sent2 a b =
       let lines = length-append first second in
       let bytes = length-append a.written b.written in
       record {
         text = a.text ++ b.text;
         written = a.written ++ b.written;
-        print = print_next before mid first second a.text b.text a.counted a.print b.print;
+        print = print_next_line before mid first second a.text b.text a.counted a.print b.print;
         counted = omega (arith, a.counted, b.counted, lines);
         parts = seam waited a.text a.written between b.text b.written waits a.parts b.parts;
         wrote = Appends-trans t0.held t1.held t2.held a.written b.written a.wrote b.wrote;
@@ -137,26 +137,26 @@ module _ (Tells : List ℕ → Result (List ℕ) LineFault → Type 0) where
         no_failure = b.no_failure ∙ a.no_failure;
       }
 
-  pub stopped_on : (Cause Next : List (List ℕ) → LineError → Type 0) (before : ℕ) (waited : List ℕ) (all first : List (List ℕ)) (mid : ℕ) (between : List ℕ) (second more : List (List ℕ)) (t0 t1 t2 : WriterTold) (sent0 sent1 : ℕ) (fault : RunFault)
+  pub stopped_on : (Cause Next : List (List ℕ) → LineError → Type 0) (before : ℕ) (waited : List ℕ) (all first : List (List ℕ)) (mid : ℕ) (between : List ℕ) (second more : List (List ℕ)) (t0 t1 t2 : WriterState) (sent0 sent1 : ℕ) (fault : StreamFault)
       → all ≡ first ++ (second ++ more) → ((done : List (List ℕ)) (error : LineError) → Next done error → Cause (first ++ done) error)
-      → Advanced Tells before waited first mid between (step_of t0 t1) sent0 sent1 → StepStopped Tells Next mid between second (step_of t1 t2) sent1 fault
-      → StepStopped Tells Cause before waited all (step_of t0 t2) sent0 fault
+      → Advanced Reports before waited first mid between (step_of t0 t1) sent0 sent1 → StepStopped Reports Next mid between second (step_of t1 t2) sent1 fault
+      → StepStopped Reports Cause before waited all (step_of t0 t2) sent0 fault
   stopped_on Cause Next before waited all first mid between second more t0 t1 t2 sent0 sent1 fault parts causes a (inl s) =
       let bytes = length-append a.written s.written in
       inl (record {
         written = a.written ++ s.written;
         wrote = Appends-trans t0.held t1.held t2.held a.written s.written a.wrote s.wrote;
-        cut = record {
-          done = first ++ s.cut.done;
-          more = s.cut.more ++ more;
-          text = a.text ++ s.cut.text;
-          left = s.cut.left;
-          first = parts ∙ ap (λ z. first ++ (z ++ more)) s.cut.first ∙ ap (λ z. first ++ z) (append_assoc s.cut.done s.cut.more more)
-              ∙ sym (append_assoc first s.cut.done (s.cut.more ++ more));
-          print = print_next before mid first s.cut.done a.text s.cut.text a.counted a.print s.cut.print;
-          front = seam waited a.text a.written between s.cut.text s.written s.cut.left a.parts s.cut.front;
+        truncated = record {
+          done = first ++ s.truncated.done;
+          more = s.truncated.more ++ more;
+          text = a.text ++ s.truncated.text;
+          left = s.truncated.left;
+          first = parts ∙ ap (λ z. first ++ (z ++ more)) s.truncated.first ∙ ap (λ z. first ++ z) (append_assoc s.truncated.done s.truncated.more more)
+              ∙ sym (append_assoc first s.truncated.done (s.truncated.more ++ more));
+          print = print_next_line before mid first s.truncated.done a.text s.truncated.text a.counted a.print s.truncated.print;
+          front = seam waited a.text a.written between s.truncated.text s.written s.truncated.left a.parts s.truncated.front;
         };
-        fault_is = s.fault_is ∙ ap run.Write {x = sent1 + length s.written} {y = sent0 + length (a.written ++ s.written)} (omega (arith, a.sent, bytes));
+        fault_is = s.fault_is ∙ ap stream.Write {x = sent1 + length s.written} {y = sent0 + length (a.written ++ s.written)} (omega (arith, a.sent, bytes));
         failure = omega (arith, s.failure, a.no_failure);
       })
   stopped_on Cause Next before waited all first mid between second more t0 t1 t2 sent0 sent1 fault parts causes a (inr s) =
@@ -167,22 +167,22 @@ module _ (Tells : List ℕ → Result (List ℕ) LineFault → Type 0) where
         text = a.text ++ s.text;
         wrote = subst (λ w. Appends t0.held t2.held w) joined (Appends-trans t0.held t1.held t2.held a.written (between ++ s.text) a.wrote s.wrote);
         done = first ++ s.done;
-        print = print_next before mid first s.done a.text s.text a.counted a.print s.print;
+        print = print_next_line before mid first s.done a.text s.text a.counted a.print s.print;
         error = s.error;
         fault_is = s.fault_is
-            ∙ ap (λ k. run_fault s.error k) {x = mid + length s.done + 1} {y = before + length (first ++ s.done) + 1} (omega (arith, a.counted, lines));
+            ∙ ap (λ k. stream.Line k s.error) {x = mid + length s.done + 1} {y = before + length (first ++ s.done) + 1} (omega (arith, a.counted, lines));
         cause = causes s.done s.error s.cause;
         no_failure = s.no_failure ∙ a.no_failure;
       })
 
   -- a step that left nothing waiting
-  pub stepped_of : (before : ℕ) (lines : List (List ℕ)) (after : ℕ) (waits : List ℕ) (t0 t1 : WriterTold) (sent0 sent1 : ℕ)
-      → waits ≡ [] → Advanced Tells before [] lines after waits (step_of t0 t1) sent0 sent1 → Stepped Tells before lines after (step_of t0 t1) sent0 sent1
+  pub stepped_of : (before : ℕ) (lines : List (List ℕ)) (after : ℕ) (waits : List ℕ) (t0 t1 : WriterState) (sent0 sent1 : ℕ)
+      → waits ≡ [] → Advanced Reports before [] lines after waits (step_of t0 t1) sent0 sent1 → Stepped Reports before lines after (step_of t0 t1) sent0 sent1
   stepped_of before lines after waits t0 t1 sent0 sent1 none a =
       let same : a.text ≡ a.written = a.parts ∙ ap (λ w. a.written ++ w) none ∙ append-nil a.written in
       record {
         text = a.written;
-        print = subst (λ t. AllPrint Tells (before + 1) lines t) same a.print;
+        print = subst (λ t. AllPrint Reports (before + 1) lines t) same a.print;
         counted = a.counted;
         wrote = a.wrote;
         sent = a.sent;
@@ -191,16 +191,16 @@ module _ (Tells : List ℕ → Result (List ℕ) LineFault → Type 0) where
 
   -- ---- a write failed at the end, before the flush
 
-  pub end_write_stopped : (Cause : List (List ℕ) → LineError → Type 0) (before : ℕ) (lines : List (List ℕ)) (after : ℕ) (out_before out : List ℕ) (t0 t1 : WriterTold) (sent : ℕ) (fault : RunFault)
+  pub end_write_stopped : (Cause : List (List ℕ) → LineError → Type 0) (before : ℕ) (lines : List (List ℕ)) (after : ℕ) (out_before out : List ℕ) (t0 t1 : WriterState) (sent : ℕ) (fault : StreamFault)
       → out_before ≡ []
-      → Worked Tells before out_before lines after out
+      → Processed Reports before out_before lines after out
       → IsCutWrite t0 t1 out sent fault
       → t1.failures ≡ t0.failures + 1
       → t1.flushes ≡ t0.flushes
-      → EndStopped Tells Cause before lines (step_of t0 t1) sent fault
-  end_write_stopped Cause before lines after out_before out t0 t1 sent fault e worked cut failure no_flush =
+      → EndStopped Reports Cause before lines (step_of t0 t1) sent fault
+  end_write_stopped Cause before lines after out_before out t0 t1 sent fault e worked truncated failure no_flush =
       inl (
         cut_stopped Cause before [] lines lines [] out worked.text t0 t1 sent fault (sym (append-nil lines)) worked.print
-            (worked.appended ∙ ap (λ o. o ++ worked.text) e) cut failure,
+            (worked.appended ∙ ap (λ o. o ++ worked.text) e) truncated failure,
         no_flush,
       )

@@ -1,4 +1,4 @@
--- What a write that took some bytes leaves.
+-- The state after a write that took some bytes.
 use Rattle.std.proofs.Common.{◌≡◌, ℕ, ◌+◌, ◌-◌, ◌≤◌, ◌<◌, Bool, true, false, cond, ◌&&◌, List, ◌++◌, length, take, drop, sym, ap, ◌∙◌, subst, arith, take_all, take-add, length-drop, nat_eq, nat_lt}
 use Rattle.std.proofs.lemmas.Bool.{ne_eqb, lt-ltb}
 use Rattle.std.specs.Prelude.{Option}
@@ -28,6 +28,6 @@ no_failure n b ne = no_failure_by (nat_eq n 0) b (ne_eqb n 0 ne)
 one_end_by : (b : Bool) → b ≡ true → ◌≡◌ {A = ℕ} (cond b 1 0) 1
 one_end_by b e = ap {B = ℕ} (λ c. cond c 1 0) e
 
--- a read of nothing into a buffer with room is an end
+-- a read of no bytes into a buffer that is not empty met the end
 pub one_end : (n room : ℕ) → n ≡ 0 → 0 < room → ◌≡◌ {A = ℕ} (cond (nat_eq n 0 && nat_lt 0 room) 1 0) 1
 one_end n room e h = one_end_by (nat_eq n 0 && nat_lt 0 room) (ap (λ m. nat_eq m 0 && nat_lt 0 room) e ∙ lt-ltb 0 room h)

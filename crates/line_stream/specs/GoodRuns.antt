@@ -1,26 +1,29 @@
--- Runs in which nothing fails: no line is bad, no call fails, and the end comes within the bound.
+-- Runs in which nothing fails: every line is valid, no call fails, and the input ends within the
+-- bound on reads.
 use Rattle.std.specs.Prelude.{◌≡◌, ℕ, ◌+◌, ◌<◌, ◌⊎◌, true, List, length, All, Some, Result, Ok, Err}
-use Rattle.mj_model.specs.Counts.{ReaderTold, WriterTold}
+use Rattle.mj_model.specs.Counts.{ReaderState, WriterState}
 use Rattle.mj_model.specs.declared.run_fault.RunFault.{RunFault}
 use Rattle.mj_model.specs.declared.run_fault.RunFault.TheVariants as run
 use Rattle.mj_model.specs.Output.{text_lines}
 use Rattle.line_stream.specs.GoodLines.{IsGood}
-use Rattle.line_stream.specs.Runs.{Told, NoFailure, both_told, has_ended}
+use Rattle.line_stream.specs.Runs.{RunState, NoFailure, run_state, has_ended}
 
--- the end of the input comes within the bound: the text has fewer bytes, or where as many reads were made, one of them met the end
-abbrev pub EndsWithin : ℕ → List ℕ → Told → Told → Type 0
+-- the input ends within the bound: the text has fewer bytes than `bound`, or the end was met if
+-- `bound` reads were made
+abbrev pub EndsWithin : ℕ → List ℕ → RunState → RunState → Type 0
 EndsWithin bound text before after =
     (length text < bound) ⊎ (after.reads ≡ before.reads + bound → has_ended before after ≡ true)
 
--- no line of the text that the reader tells is bad, no call failed, and the end came within the bound
-pub record NothingFails (bound : ℕ) (from to : ReaderTold) (before after : WriterTold) : Type 0 where
+-- the text of the reader is known and its lines are valid, no call failed, and the input ended
+-- within the bound
+pub record NothingFails (bound : ℕ) (from to : ReaderState) (before after : WriterState) : Type 0 where
   pub text : List ℕ
-  pub told : from.left ≡ Some text
+  pub reported : from.left ≡ Some text
   pub good : All IsGood (text_lines text)
-  pub no_failure : NoFailure (both_told from before) (both_told to after)
-  pub ends : EndsWithin bound text (both_told from before) (both_told to after)
+  pub no_failure : NoFailure (run_state from before) (run_state to after)
+  pub ends : EndsWithin bound text (run_state from before) (run_state to after)
 
--- the number of lines, or want of memory
+-- the run succeeded or ran out of memory
 abbrev pub IsOkOrMemory : Result ℕ RunFault → Type 0
 IsOkOrMemory (Ok lines) = Unit {0}
 IsOkOrMemory (Err (run.Memory line)) = Unit {0}

@@ -1,6 +1,6 @@
 pub mod LineErrors
 pub mod GoodLines
-pub mod Progress
+pub mod StreamState
 pub mod Steps
 pub mod LinesInMemory
 pub mod Runs

@@ -1,9 +1,9 @@
 //! Laws of a run over lines.
 
 ghost use Rattle.std.specs.Prelude.{◌≡◌};
-ghost use Rattle.line_stream.specs.declared.reading.TheConstants.{BUFFER};
+ghost use Rattle.line_stream.specs.declared.reading.TheConstants.{BUFFER_SIZE};
 
-/// How many bytes are read at once, as a number: a definition that names it means this number.
+/// `BUFFER_SIZE`, as a number: lets a proof replace the constant with its value.
 pub fn buffer()
-    ensures { BUFFER ≡ 65536 }
+    ensures { BUFFER_SIZE ≡ 65536 }
 {}

@@ -1,7 +1,5 @@
-pub mod HeldLemmas
-pub mod LastWords
-pub mod NearNumbers
+pub mod HeaderLemmas
 pub mod NumberLemmas
 pub mod ReadingLemmas
 pub mod RowLemmas
-pub mod BriefLemmas
+pub mod SizeLemmas

@@ -1,4 +1,5 @@
--- The numbers that are told of lines. What lines say doesn't ask for their numbers, and of lines that 64 bits count the numbers are their own.
+-- The reported numbers of lines. The contents of lines do not depend on their numbers, and lines
+-- that 64 bits can count have their own numbers.
 use Rattle.std.proofs.Common.{◌≡◌, ℕ, suc, ◌+◌, ◌*◌, ◌<◌, ◌≤◌, ◌^◌, Bool, true, false, cond, List, [], ◌∷◌, length, refl, sym, ap, ◌∙◌, subst, arith, inl, inr}
 use Rattle.std.specs.Prelude.{map, not, nat_le, Option, Some, None, Result, Ok, Err}
 use Rattle.std.specs.List.{cons_option, enumerate_from, onto_first, slice_split}
@@ -12,48 +13,48 @@ use Rattle.mj_model.specs.declared.source_fault.SourceKind.{SourceKind}
 use Rattle.mj_model.specs.declared.source_fault.SourceKind.TheVariants.{TooLarge}
 use Rattle.mj_model.specs.Bytes.{is_line_feed}
 use Rattle.mj_model.specs.Connection.{Connection, cell_from, connection_from, connection_of, connection_under, connection_unless, matrix_fault, row_fault, sizes_from, words_of}
-use Rattle.mj_model.specs.FirstFault.{IsRefusal, fault_or, first_fault}
+use Rattle.mj_model.specs.FirstFault.{IsMemoryOr, fault_or, first_fault}
 use Rattle.mj_model.specs.Lines.{is_blank_line, pieces, source_lines, without_last_empty, without_return}
-use Rattle.lex_source.specs.Filled.{nonblank_lines}
-use Rattle.matrix_def.specs.Reading.{told_connection, told_lines, told_number}
+use Rattle.lex_source.specs.NonblankLines.{nonblank_lines}
+use Rattle.matrix_def.specs.Reading.{reported_connection, reported_lines, reported_number}
 use Rattle.matrix_def.specs.Rows.{cells_of}
 
 abbrev pub told_line : (ℕ × List ℕ) → ℕ × List ℕ
-told_line line = (told_number line.0, line.1)
+told_line line = (reported_number line.0, line.1)
 
--- ---- what lines say under other numbers
+-- ---- the contents of lines under other numbers
 
-filled_by : (line : ℕ × List ℕ) (told rows : List (ℕ × List ℕ)) (b : Bool) → told ≡ map told_line rows → cond b (told_line line ∷ told) told ≡ map told_line (cond b (line ∷ rows) rows)
-filled_by line told rows true is = ap (λ (ls : List (ℕ × List ℕ)). told_line line ∷ ls) is
-filled_by line told rows false is = is
+filled_by : (line : ℕ × List ℕ) (reported rows : List (ℕ × List ℕ)) (b : Bool) → reported ≡ map told_line rows → cond b (told_line line ∷ reported) reported ≡ map told_line (cond b (line ∷ rows) rows)
+filled_by line reported rows true is = ap (λ (ls : List (ℕ × List ℕ)). told_line line ∷ ls) is
+filled_by line reported rows false is = is
 
 told_filled : (lines : List (ℕ × List ℕ)) → nonblank_lines (map told_line lines) ≡ map told_line (nonblank_lines lines)
 told_filled [] = refl
 told_filled (line ∷ lines) = filled_by line (nonblank_lines (map told_line lines)) (nonblank_lines lines) (not (is_blank_line line.1)) (told_filled lines)
 
-no_fault_by : (file n m : ℕ) (found : Option SourceKind) (told others : Option SourceFault) → (told ≡ None → others ≡ None) → fault_or file n found told ≡ None → fault_or file m found others ≡ None
-no_fault_by file n m None told others h e = h e
-no_fault_by file n m (Some kind) told others h e = absurd (cc)
+no_fault_by : (file n m : ℕ) (found : Option SourceKind) (reported others : Option SourceFault) → (reported ≡ None → others ≡ None) → fault_or file n found reported ≡ None → fault_or file m found others ≡ None
+no_fault_by file n m None reported others h e = h e
+no_fault_by file n m (Some kind) reported others h e = absurd (cc)
 
 no_fault : (sizes : MatrixSizes) (rows : List (ℕ × List ℕ)) → first_fault 0 (row_fault sizes) (map told_line rows) ≡ None → first_fault 0 (row_fault sizes) rows ≡ None
 no_fault sizes [] e = refl
-no_fault sizes (row ∷ rows) e = no_fault_by 0 (told_number row.0) row.0 (row_fault sizes row.1) (first_fault 0 (row_fault sizes) (map told_line rows)) (first_fault 0 (row_fault sizes) rows) (no_fault sizes rows) e
+no_fault sizes (row ∷ rows) e = no_fault_by 0 (reported_number row.0) row.0 (row_fault sizes row.1) (first_fault 0 (row_fault sizes) (map told_line rows)) (first_fault 0 (row_fault sizes) rows) (no_fault sizes rows) e
 
 told_cells : (rows : List (ℕ × List ℕ)) → cells_of (map told_line rows) ≡ cells_of rows
 told_cells [] = refl
 told_cells (row ∷ rows) = ap (cons_option (cell_from (words_of row.1))) (told_cells rows)
 
-accepted_unless : (told found : Option SourceFault) (sizes : MatrixSizes) (rows : List (ℕ × List ℕ)) (c : Connection) → (told ≡ None → found ≡ None)
-    → connection_unless told sizes (map told_line rows) ≡ Ok c → connection_unless found sizes rows ≡ Ok c
+accepted_unless : (reported found : Option SourceFault) (sizes : MatrixSizes) (rows : List (ℕ × List ℕ)) (c : Connection) → (reported ≡ None → found ≡ None)
+    → connection_unless reported sizes (map told_line rows) ≡ Ok c → connection_unless found sizes rows ≡ Ok c
 accepted_unless None found sizes rows c h e =
     ap (λ (o : Option SourceFault). connection_unless o sizes rows) (h refl) ∙ ap (λ cells. Ok (record { sizes = sizes; cells = cells })) (sym (told_cells rows)) ∙ e
 accepted_unless (Some fault) found sizes rows c h e = absurd (cc)
 
-accepted_by : (b : Bool) (told read : Result Connection SourceFault) (f g : SourceFault) (c : Connection) → (told ≡ Ok c → read ≡ Ok c) → cond b told (Err f) ≡ Ok c → cond b read (Err g) ≡ Ok c
-accepted_by true told read f g c h e = h e
-accepted_by false told read f g c h e = absurd (cc)
+accepted_by : (b : Bool) (reported read : Result Connection SourceFault) (f g : SourceFault) (c : Connection) → (reported ≡ Ok c → read ≡ Ok c) → cond b reported (Err f) ≡ Ok c → cond b read (Err g) ≡ Ok c
+accepted_by true reported read f g c h e = h e
+accepted_by false reported read f g c h e = absurd (cc)
 
-accepted_under : (n : ℕ) (sizes : Option MatrixSizes) (rows : List (ℕ × List ℕ)) (c : Connection) → connection_under (told_number n) sizes (map told_line rows) ≡ Ok c → connection_under n sizes rows ≡ Ok c
+accepted_under : (n : ℕ) (sizes : Option MatrixSizes) (rows : List (ℕ × List ℕ)) (c : Connection) → connection_under (reported_number n) sizes (map told_line rows) ≡ Ok c → connection_under n sizes rows ≡ Ok c
 accepted_under n None rows c e = absurd (cc)
 accepted_under n (Some sizes) rows c e =
     accepted_by (nat_le (sizes.right * sizes.left) MATRIX_CELLS_MAX) _ (connection_unless (first_fault 0 (row_fault sizes) rows) sizes rows) _ (matrix_fault n TooLarge) c
@@ -63,17 +64,17 @@ accepted_from : (lines : List (ℕ × List ℕ)) (c : Connection) → connection
 accepted_from [] c e = e
 accepted_from (header ∷ rows) c e = accepted_under header.0 (sizes_from (words_of header.1)) rows c e
 
-pub told_accepted : (bytes : List ℕ) (c : Connection) → told_connection bytes ≡ Ok c → connection_of bytes ≡ Ok c
+pub told_accepted : (bytes : List ℕ) (c : Connection) → reported_connection bytes ≡ Ok c → connection_of bytes ≡ Ok c
 told_accepted bytes c e =
     let lines : List (ℕ × List ℕ) = enumerate_from 1 (source_lines bytes) in accepted_from (nonblank_lines lines) c (ap connection_from (sym (told_filled lines)) ∙ e)
 
--- ---- lines that 64 bits count
+-- ---- lines that 64 bits can count
 
-told_as_they_are : (n : ℕ) (lines : List (List ℕ)) → n + length lines ≤ 2 ^ 64 → told_lines n lines ≡ enumerate_from n lines
+told_as_they_are : (n : ℕ) (lines : List (List ℕ)) → n + length lines ≤ 2 ^ 64 → reported_lines n lines ≡ enumerate_from n lines
 told_as_they_are n [] few = refl
 told_as_they_are n (line ∷ lines) few =
-    let same : told_number n ≡ n = omega (arith, few) in
-    ap (λ (k : ℕ). (k, line) ∷ told_lines (n + 1) lines) same ∙ ap (λ (ls : List (ℕ × List ℕ)). (n, line) ∷ ls) (told_as_they_are (n + 1) lines (omega (arith, few)))
+    let same : reported_number n ≡ n = omega (arith, few) in
+    ap (λ (k : ℕ). (k, line) ∷ reported_lines (n + 1) lines) same ∙ ap (λ (ls : List (ℕ × List ℕ)). (n, line) ∷ ls) (told_as_they_are (n + 1) lines (omega (arith, few)))
 
 few_onto : (c : ℕ) (parts : List (List ℕ)) (n : ℕ) → length (without_last_empty parts) ≤ n → length (without_last_empty (onto_first c parts)) ≤ suc n
 few_onto c [] n few = omega arith
@@ -96,13 +97,13 @@ few_pieces (c ∷ cs) = elim (cases_Bool (is_line_feed c)) [
       (few_onto c (slice_split is_line_feed cs) (length cs) (few_pieces cs))
 ]
 
--- bytes that a slice holds have no more lines than 64 bits count
-told_of_slice : (bytes : List ℕ) → length bytes < 2 ^ 64 → told_connection bytes ≡ connection_of bytes
+-- the bytes of a slice have no more lines than 64 bits can count
+told_of_slice : (bytes : List ℕ) → length bytes < 2 ^ 64 → reported_connection bytes ≡ connection_of bytes
 told_of_slice bytes short =
     let few = few_pieces bytes in
     let lines = length-map (pieces bytes) without_return in
     ap (λ (ls : List (ℕ × List ℕ)). connection_from (nonblank_lines ls)) (told_as_they_are 1 (source_lines bytes) (omega (arith, short, few, lines)))
 
-pub told_refusal : (bytes : List ℕ) (fault : SourceFault) → length bytes < 2 ^ 64 → IsRefusal fault (told_connection bytes ≡ Err fault) → IsRefusal fault (connection_of bytes ≡ Err fault)
+pub told_refusal : (bytes : List ℕ) (fault : SourceFault) → length bytes < 2 ^ 64 → IsMemoryOr fault (reported_connection bytes ≡ Err fault) → IsMemoryOr fault (connection_of bytes ≡ Err fault)
 told_refusal bytes fault short (inl memory) = inl memory
 told_refusal bytes fault short (inr is) = inr (sym (told_of_slice bytes short) ∙ is)

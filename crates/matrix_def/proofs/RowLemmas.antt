@@ -1,4 +1,5 @@
--- The rows of `matrix.def`, one after another: each sets its cell, and of a repeated pair the last one counts.
+-- The rows of `matrix.def`, one after another: each sets its cell, and the last row of a repeated
+-- pair counts.
 use Rattle.std.proofs.Common.{◌≡◌, ℕ, ◌+◌, ◌*◌, ◌<◌, Bool, false, cond, ltb, ◌&&◌, List, [], ◌∷◌, ◌++◌, length, get_or, set, reverse, refl, sym, ◌∙◌, ap, subst, arith, Option, Some, None, inl, inr, get_or-set_same, get_or-set_other, mul_comm}
 use Rattle.std.specs.Prelude.{ℤ, pos, find, ◌==◌, IsTrue}
 use Rattle.std.specs.List.{cons_option}
@@ -16,7 +17,7 @@ use Rattle.mj_model.specs.Connection.{Cell, cell_from, words_of, cell_fault, row
 use Rattle.matrix_def.specs.Costs.{CostTable, IsMatrix, IsTableOf, cell_at, matrix_cost}
 use Rattle.matrix_def.specs.Rows.{cells_of, IsFilledBy, IsRow}
 
--- ---- faults
+-- ---- errors
 
 no_fault : (file line : ℕ) (here : Option SourceKind) (others : Option SourceFault) → fault_or file line here others ≡ None → (here ≡ None) × (others ≡ None)
 no_fault file line None others is = (refl, is)
@@ -100,7 +101,7 @@ cells-append rows line cell listed =
 pub row_pair : (sizes : MatrixSizes) (m : CostTable) (line : List ℕ) (cell : Cell) → m.sizes ≡ sizes → IsRow sizes line cell → IsTrue (is_pair m.sizes cell.right cell.left)
 row_pair sizes m line cell same r = subst (λ (s : MatrixSizes). IsTrue (is_pair s cell.right cell.left)) (sym same) r.within
 
--- a further row sets its cell
+-- one more row sets its cell
 pub row_filled : (sizes : MatrixSizes) (rows : List (ℕ × List ℕ)) (m new : CostTable) (row : ℕ × List ℕ) (cell : Cell) → IsFilledBy sizes rows m → IsMatrix m → IsRow sizes row.1 cell
     → new ≡ record m { costs = set m.costs (cell_at m cell.right cell.left) cell.cost } → IsFilledBy sizes (rows ++ row ∷ []) new
 row_filled sizes rows m new row cell h formed r set_is =
@@ -114,7 +115,7 @@ row_filled sizes rows m new row cell h formed r set_is =
     let none = fault-append 0 (row_fault sizes) rows (row ∷ []) h.0 ∙ ap (λ (o : Option SourceKind). fault_or 0 row.0 o None) (row_good sizes row.1 cell r) in
     (none, subst (λ (t : CostTable). IsTableOf (record { sizes = sizes; cells = cells_of (rows ++ row ∷ []) }) t) (sym set_is) held)
 
--- a row at fault is the first one, whatever follows
+-- an invalid row is the first error, whatever follows
 pub row_bad : (sizes : MatrixSizes) (rows more : List (ℕ × List ℕ)) (m : CostTable) (row : ℕ × List ℕ) (kind : SourceKind) → IsFilledBy sizes rows m → row_fault sizes row.1 ≡ Some kind
     → first_fault 0 (row_fault sizes) (rows ++ row ∷ more) ≡ Some (record { file = 0; line = row.0; kind = kind })
 row_bad sizes rows more m row kind h bad =

@@ -1,5 +1,4 @@
 pub mod Costs
-pub mod Held
-pub mod Brief
+pub mod Headers
 pub mod Reading
 pub mod Rows

@@ -1,4 +1,4 @@
--- What a reader of `matrix.def` keeps of the bytes that it was given so far.
+-- The state of a reader of `matrix.def` after some bytes.
 use Rattle.std.specs.Prelude.{◌≡◌, ℕ, ◌*◌, ◌-◌, ◌^◌, min, nat_le, true, false, List, [], ◌∷◌, ◌++◌, length, map, Some, Result, Ok, Err}
 use Rattle.std.specs.List.{enumerate_from, list_any}
 use Rattle.mj_model.specs.declared.limits.TheConstants.{MATRIX_CELLS_MAX}
@@ -6,34 +6,33 @@ use Rattle.mj_model.specs.declared.source_fault.SourceFault.{SourceFault}
 use Rattle.mj_model.specs.Bytes.{is_line_feed}
 use Rattle.mj_model.specs.Connection.{Connection, connection_from, sizes_from, words_of}
 use Rattle.mj_model.specs.Lines.{source_lines}
-use Rattle.lex_source.specs.Filled.{nonblank_lines}
+use Rattle.lex_source.specs.NonblankLines.{nonblank_lines}
 use Rattle.matrix_def.specs.Costs.{CostTable, IsMatrix, IsTableOf}
-use Rattle.matrix_def.specs.Held.{IsHeldAs}
 use Rattle.matrix_def.specs.Rows.{IsFilledBy}
-use Rattle.matrix_def.specs.declared.standing.Standing.{Standing}
-use Rattle.matrix_def.specs.declared.standing.Standing.TheVariants.{Header, Rows, Refused}
+use Rattle.matrix_def.specs.declared.reader_state.ReaderState.{ReaderState}
+use Rattle.matrix_def.specs.declared.reader_state.ReaderState.TheVariants.{Header, Rows, Rejected}
 
--- the number that is told of a line: a reader counts as far as 64 bits do, and the lines behind have the greatest number
-abbrev pub told_number : ℕ → ℕ
-told_number n = min n (2 ^ 64 - 1)
+-- the number that is reported for a line: at most 2^64 - 1, as far as the reader counts
+abbrev pub reported_number : ℕ → ℕ
+reported_number n = min n (2 ^ 64 - 1)
 
--- lines by the numbers that are told of them, from a number on
-abbrev pub told_lines : ℕ → List (List ℕ) → List (ℕ × List ℕ)
-told_lines n lines = map (λ line. (told_number line.0, line.1)) (enumerate_from n lines)
+-- lines with their reported numbers, from number n on
+abbrev pub reported_lines : ℕ → List (List ℕ) → List (ℕ × List ℕ)
+reported_lines n lines = map (λ line. (reported_number line.0, line.1)) (enumerate_from n lines)
 
--- what the bytes of a `matrix.def` say, or their first fault by the number that is told of its line
-abbrev pub told_connection : List ℕ → Result Connection SourceFault
-told_connection bytes = connection_from (nonblank_lines (told_lines 1 (source_lines bytes)))
+-- the contents of the bytes of a `matrix.def`, or their first error with its reported line number
+abbrev pub reported_connection : List ℕ → Result Connection SourceFault
+reported_connection bytes = connection_from (nonblank_lines (reported_lines 1 (source_lines bytes)))
 
 -- no byte is a line feed
 abbrev pub HasNoFeed : List ℕ → Type 0
 HasNoFeed bytes = list_any is_line_feed bytes ≡ false
 
--- a line by its number, or nothing where it is blank
+-- a numbered line, or nothing if it is blank
 abbrev pub row_of : ℕ → List ℕ → List (ℕ × List ℕ)
 row_of number bytes = nonblank_lines (enumerate_from number (source_lines bytes))
 
--- lines that are not blank: a header, and rows without fault that fill the table
+-- lines that are not blank: a header, and valid rows that fill the table
 pub record Fill (lines : List (ℕ × List ℕ)) (m : CostTable) : Type 0 where
   pub header : ℕ × List ℕ
   pub rows : List (ℕ × List ℕ)
@@ -43,38 +42,36 @@ pub record Fill (lines : List (ℕ × List ℕ)) (m : CostTable) : Type 0 where
   pub formed : IsMatrix m
   pub filled_by : IsFilledBy m.sizes rows m
 
--- after lines that are not blank reading stands so; after a fault, whatever follows
-abbrev pub StandsAfter : List (ℕ × List ℕ) → Standing → Type 0
-StandsAfter lines Header = lines ≡ []
-StandsAfter lines (Rows m) = Fill lines m
-StandsAfter lines (Refused fault) = (more : List (ℕ × List ℕ)) → connection_from (lines ++ more) ≡ Err fault
+-- the state after lines that are not blank; an error remains whatever follows
+abbrev pub IsStateAfter : List (ℕ × List ℕ) → ReaderState → Type 0
+IsStateAfter lines Header = lines ≡ []
+IsStateAfter lines (Rows m) = Fill lines m
+IsStateAfter lines (Rejected fault) = (more : List (ℕ × List ℕ)) → connection_from (lines ++ more) ≡ Err fault
 
--- whatever follows, bytes are refused for this fault
-abbrev pub AreRefusedFor : SourceFault → List ℕ → Type 0
-AreRefusedFor fault bytes = (more : List ℕ) → told_connection (bytes ++ more) ≡ Err fault
+-- the bytes are rejected with this error, whatever follows
+abbrev pub AreRejectedFor : SourceFault → List ℕ → Type 0
+AreRejectedFor fault bytes = (more : List ℕ) → reported_connection (bytes ++ more) ≡ Err fault
 
--- the table is what lines that are not blank say
+-- the table has the contents of lines that are not blank
 abbrev pub IsTableFrom : List (ℕ × List ℕ) → CostTable → Type 0
 IsTableFrom lines m = (c : Connection) × (connection_from lines ≡ Ok c) × IsTableOf c m
 
--- the table is what bytes say, by the numbers that are told of their lines
-abbrev pub IsToldTable : List ℕ → CostTable → Type 0
-IsToldTable bytes m = (c : Connection) × (told_connection bytes ≡ Ok c) × IsTableOf c m
+-- the table has the contents of the bytes, with reported line numbers
+abbrev pub IsReportedTable : List ℕ → CostTable → Type 0
+IsReportedTable bytes m = (c : Connection) × (reported_connection bytes ≡ Ok c) × IsTableOf c m
 
--- how many lines ended, bytes that say what the line that began behind them says, and where reading stands
-pub record ReaderSeen : Type 0 where
-  pub ended : ℕ
-  pub begun : List ℕ
-  pub standing : Standing
+-- the number of complete lines, the unfinished line, and the state after the complete lines
+pub record ReaderView : Type 0 where
+  pub complete_lines : ℕ
+  pub unfinished : List ℕ
+  pub state : ReaderState
 
--- the reader was given these bytes: those of lines that ended, and those of the line that began, which may be held as others
-pub record HasRead (bytes : List ℕ) (r : ReaderSeen) : Type 0 where
+-- the reader has read these bytes: complete lines, and the unfinished line, which it holds
+pub record HasRead (bytes : List ℕ) (r : ReaderView) : Type 0 where
   pub closed : List ℕ
   pub lines : List (List ℕ)
-  pub came : List ℕ
-  pub parts : bytes ≡ closed ++ came
-  pub unended : HasNoFeed came
-  pub held : IsHeldAs came r.begun
+  pub parts : bytes ≡ closed ++ r.unfinished
+  pub unended : HasNoFeed r.unfinished
   pub cut : (more : List ℕ) → source_lines (closed ++ more) ≡ lines ++ source_lines more
-  pub counted : r.ended ≡ told_number (length lines)
-  pub stands : StandsAfter (nonblank_lines (told_lines 1 lines)) r.standing
+  pub counted : r.complete_lines ≡ reported_number (length lines)
+  pub lies : IsStateAfter (nonblank_lines (reported_lines 1 lines)) r.state

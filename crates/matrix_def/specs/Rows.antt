@@ -14,12 +14,12 @@ cell_of cell = record { right = cell.right; left = cell.left; cost = cell.cost }
 abbrev pub cells_of : List (ℕ × List ℕ) → List Cell
 cells_of rows = filter_map (λ row. cell_from (words_of row.1)) rows
 
--- a row lists this cell, within the sizes
+-- the row lists this cell, which lies within the sizes
 pub record IsRow (sizes : MatrixSizes) (line : List ℕ) (cell : Cell) : Type 0 where
   pub listed : cell_from (words_of line) ≡ Some cell
   pub within : IsTrue (is_pair sizes cell.right cell.left)
 
--- rows are without fault, and the table holds what they list
+-- the rows are valid, and the table has their costs
 abbrev pub IsFilledBy : MatrixSizes → List (ℕ × List ℕ) → CostTable → Type 0
 IsFilledBy sizes rows m =
     (first_fault MATRIX_FILE (row_fault sizes) rows ≡ None) × IsTableOf (record { sizes = sizes; cells = cells_of rows }) m

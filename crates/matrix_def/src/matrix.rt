@@ -1,4 +1,4 @@
-//! The connection costs.
+//! The table of connection costs.
 ghost use Rattle.std.specs.Prelude.{◌≡◌, ◌<◌, ◌+◌, ◌*◌, pos, replicate, slice_set, IsTrue, IfOk};
 ghost use Rattle.mj_model.specs.Connection.{AreMatrixSizes, is_pair};
 ghost use Rattle.matrix_def.specs.Costs.{CostTable, IsMatrix, cell_at, matrix_cost};
@@ -7,7 +7,7 @@ use mj_model::MatrixSizes;
 use std::alloc::{AllocError, Global};
 use std::marker::Model;
 
-/// What it costs to set one word behind another, by the context ids that meet.
+/// A table of connection costs, by the right id of a word and the left id of the following word.
 #[derive(Drop)]
 pub struct Matrix {
     sizes: MatrixSizes,
@@ -23,7 +23,7 @@ impl Model for Matrix {
 }
 
 impl Matrix {
-    /// A table in which each pair costs 0.
+    /// Returns a table in which all costs are 0.
     pub(crate) fn empty(alloc: Global, sizes: MatrixSizes) -> Result<Matrix, AllocError>
         requires { AreMatrixSizes sizes }
         ensures value { IfOk result (λ m. m
@@ -34,7 +34,7 @@ impl Matrix {
         Ok(Matrix { sizes, costs })
     }
 
-    /// How many right ids and how many left ids there are.
+    /// Returns the number of right ids and of left ids.
     pub fn sizes(&self) -> MatrixSizes
         ensures sizes { result ≡ self.now.sizes }
         ensures formed { IsMatrix self.now }
@@ -42,15 +42,15 @@ impl Matrix {
         self.sizes
     }
 
-    /// Whether both ids lie within the sizes.
+    /// Returns whether both ids lie within the sizes.
     pub fn is_valid(&self, left: u16, right: u16) -> bool
         ensures { result ≡ is_pair self.now.sizes right left }
     {
         self.sizes.contains(right, left)
     }
 
-    /// The connection cost of the right id of the word before and the left id of the word behind it.
-    /// (MeCab, `matrix.def`)
+    /// Returns the cost of connecting a word with right id `prev_right` to a following word with
+    /// left id `next_left`. Lower costs are preferred. (MeCab, `matrix.def`)
     pub fn cost(&self, prev_right: u16, next_left: u16) -> i16
         requires { IsTrue (is_pair self.now.sizes prev_right next_left) }
         ensures { result ≡ matrix_cost self.now prev_right next_left }
@@ -58,7 +58,7 @@ impl Matrix {
         self.costs[cell(self.sizes, prev_right, next_left)]
     }
 
-    /// The costs of one right id after another, each in the order of the left ids.
+    /// Returns all costs, ordered by right id and then by left id.
     pub fn costs(&self) -> &[i16]
         ensures costs { result.now ≡ self.now.costs }
         ensures formed { IsMatrix self.now }
@@ -69,7 +69,9 @@ impl Matrix {
     pub(crate) fn set(&mut self, right: u16, left: u16, cost: i16)
         requires { IsTrue (is_pair self.old.sizes right left) }
         ensures value { self.new
-            ≡ record self.old { costs = slice_set self.old.costs (cell_at self.old right left) cost } }
+            ≡ record self.old {
+              costs = slice_set self.old.costs (cell_at self.old right left) cost;
+            } }
         ensures formed { IsMatrix self.new }
     {
         let at = cell(self.sizes, right, left);
@@ -77,7 +79,7 @@ impl Matrix {
     }
 }
 
-/// Where the cost of a pair stands.
+/// Returns the index of the cost of a pair of ids.
 fn cell(sizes: MatrixSizes, right: u16, left: u16) -> usize
     ensures { result ≡ right * sizes.left + left }
 {

@@ -1,127 +1,131 @@
-//! `matrix.def`, read piece by piece.
-ghost use Rattle.std.specs.Prelude.{◌≡◌, ◌≤◌, ℕ, length, List, [], ◌∷◌, ◌++◌, Err, IfOk, IfErr, IfSome};
+//! Reading of a `matrix.def` piece by piece.
+ghost use Rattle.std.specs.Prelude.{◌≡◌, ℕ, List, [], ◌∷◌, ◌++◌, Err, IfOk, IfErr, IfSome};
 ghost use Rattle.mj_model.specs.Bytes.{line_feed};
-ghost use Rattle.mj_model.specs.FirstFault.{IsRefusal};
-ghost use Rattle.matrix_def.specs.Brief.{held_most};
+ghost use Rattle.mj_model.specs.FirstFault.{IsMemoryOr};
 ghost use Rattle.matrix_def.specs.Costs.{IsTableIn};
-ghost use Rattle.matrix_def.specs.Reading.{AreRefusedFor, HasNoFeed, HasRead, IsToldTable, told_connection};
+ghost use Rattle.matrix_def.specs.Reading.{AreRejectedFor, HasNoFeed, HasRead, IsReportedTable, reported_connection};
 
-use crate::begun::{append_bytes, is_no_header};
+use crate::header_start::is_no_header;
 use crate::matrix::Matrix;
-use crate::standing::Standing;
+use crate::reader_state::ReaderState;
 use lex_source::split_first;
 use mj_model::{MATRIX_FILE, SourceFault, SourceKind};
 use std::alloc::{AllocError, Global};
 use std::marker::Model;
 
-/// Reads a `matrix.def` whose bytes come in pieces, of any lengths and cut anywhere.
+/// A reader of a `matrix.def` whose bytes arrive in pieces of any lengths.
 ///
-/// It keeps the table of costs, and of the line that did not end yet as many bytes as say the same: no more than three words and
-/// the beginning of a fourth, without further blanks, leading zeros and digits: 29 bytes at most.
+/// It keeps the table of costs, and a buffer with the bytes of the unfinished line. A line that
+/// lies within a piece is parsed there. So the buffer grows to the length of the longest line that
+/// crosses the end of a piece, and memory has no other bound than the longest line.
 #[derive(Drop)]
 pub struct MatrixReader {
     alloc: Global,
-    /// How many lines ended, as far as 64 bits count.
-    ended: u64,
-    /// What the line that began behind them says so far.
-    begun: Vec<u8>,
-    standing: Standing,
+    /// The number of complete lines, at most `u64::MAX`.
+    complete_lines: u64,
+    /// The bytes of the line that no LF has ended yet.
+    unfinished: Vec<u8>,
+    /// The state after the complete lines.
+    state: ReaderState,
 }
 
 impl Model for MatrixReader {
-    ghost use Rattle.matrix_def.specs.Brief.{IsHeldBriefly};
-    ghost use Rattle.matrix_def.specs.Reading.{HasNoFeed, ReaderSeen};
+    ghost use Rattle.matrix_def.specs.Reading.{ReaderView};
 
-    ghost Value = { ReaderSeen };
+    ghost Value = { ReaderView };
 
-    ghost view = { λ r. record { ended = r.ended; begun = r.begun.items; standing = r.standing } };
-
-    ghost invariant = { λ r. HasNoFeed r.begun.items × IsHeldBriefly r.begun.items };
+    ghost view = { λ r. record {
+      complete_lines = r.complete_lines;
+      unfinished = r.unfinished.items;
+      state = r.state;
+    } };
 }
 
 impl MatrixReader {
-    /// A reader that was given no bytes. It takes no memory.
+    /// Returns a reader that has read nothing. Does not allocate.
     pub fn new(alloc: Global) -> MatrixReader
         ensures { HasRead [] result }
     {
         MatrixReader {
             alloc,
-            ended: 0,
-            begun: Vec::new(alloc),
-            standing: Standing::Header,
+            complete_lines: 0,
+            unfinished: Vec::new(alloc),
+            state: ReaderState::Header,
         }
     }
 
-    /// After a further piece.
+    /// Reads the next piece. Fails only if an allocation fails.
     pub fn read(self, piece: &[u8]) -> Result<MatrixReader, AllocError>
         ensures read { (bytes : List ℕ) → HasRead bytes self
             → IfOk result (HasRead (bytes ++ piece.now)) }
-        // However long a line is, few bytes are held of it.
-        ensures brief { IfOk result (λ reader. length reader.begun ≤ held_most) }
     {
         let mut reader = self;
         let mut rest = piece;
-        while let Some((part, behind)) = split_first(rest, b'\n') {
+        while let Some((part, following)) = split_first(rest, b'\n') {
             reader = reader.read_to_end(part)?;
-            rest = behind;
+            rest = following;
         }
-        reader.read_begun(rest)
+        reader.read_unfinished(rest)
     }
 
-    /// After the rest of a line, and its LF.
+    /// Reads the last part of a line, which its LF follows.
     fn read_to_end(mut self, part: &[u8]) -> Result<MatrixReader, AllocError>
         requires { HasNoFeed part.now }
         ensures { (bytes : List ℕ) → HasRead bytes self
             → IfOk result (HasRead (bytes ++ part.now ++ line_feed ∷ [])) }
     {
-        self.begun.extend_from_slice(part)?;
-        self.ended = self.ended.saturating_add(1);
-        self.standing = self.standing.after(self.alloc, self.ended, &self.begun)?;
-        self.begun.clear();
+        let number = self.complete_lines.saturating_add(1);
+        self.complete_lines = number;
+        if self.unfinished.is_empty() {
+            self.state = self.state.after(self.alloc, number, part)?;
+            return Ok(self);
+        }
+        self.unfinished.extend_from_slice(part)?;
+        self.state = self.state.after(self.alloc, number, &self.unfinished)?;
+        self.unfinished.clear();
         Ok(self)
     }
 
-    /// After bytes of a line that does not end with them.
-    fn read_begun(mut self, part: &[u8]) -> Result<MatrixReader, AllocError>
-        requires { HasNoFeed part.now }
-        ensures read { (bytes : List ℕ) → HasRead bytes self
-            → IfOk result (HasRead (bytes ++ part.now)) }
-        ensures brief { IfOk result (λ reader. length reader.begun ≤ held_most) }
+    /// Reads more of a line, which does not end with it.
+    fn read_unfinished(mut self, more: &[u8]) -> Result<MatrixReader, AllocError>
+        requires { HasNoFeed more.now }
+        ensures { (bytes : List ℕ) → HasRead bytes self
+            → IfOk result (HasRead (bytes ++ more.now)) }
     {
-        append_bytes(&mut self.begun, part)?;
+        self.unfinished.extend_from_slice(more)?;
         Ok(self)
     }
 
-    /// Returns the fault of the header, if the bytes of its line so far are those of no header, whatever follows. Then no further bytes need
-    /// be read.
+    /// Returns the error of the header, if the unfinished header line is invalid whatever follows.
+    /// A caller can then stop reading.
     pub fn header_fault(&self) -> Option<SourceFault>
         ensures { (bytes : List ℕ) → HasRead bytes self.now
-            → IfSome result (λ fault. AreRefusedFor fault bytes) }
+            → IfSome result (λ fault. AreRejectedFor fault bytes) }
     {
-        if self.standing.is_header() && is_no_header(&self.begun) {
-            Some(SourceKind::BadHeader.at(MATRIX_FILE, self.ended.saturating_add(1)))
+        if self.state.is_header() && is_no_header(&self.unfinished) {
+            Some(SourceKind::BadHeader.at(MATRIX_FILE, self.complete_lines.saturating_add(1)))
         } else {
             None
         }
     }
 
-    /// What the bytes say: what `read_matrix` reads of them as one slice. Of a fault behind 2^64 lines the line is told as the last that
-    /// 64 bits count.
+    /// Returns the table of all bytes, or their first error, as `read_matrix` does for one slice.
+    /// An error after line `u64::MAX` has that line number.
     pub fn finish(self) -> Result<Matrix, SourceFault>
         ensures accepted { (bytes : List ℕ) → HasRead bytes self
             → IfOk result (IsTableIn bytes) }
-        ensures told { (bytes : List ℕ) → HasRead bytes self
-            → IfOk result (IsToldTable bytes) }
-        ensures refused { (bytes : List ℕ) → HasRead bytes self
-            → IfErr result (λ fault. IsRefusal fault (told_connection bytes ≡ Err fault)) }
+        ensures reported { (bytes : List ℕ) → HasRead bytes self
+            → IfOk result (IsReportedTable bytes) }
+        ensures rejected { (bytes : List ℕ) → HasRead bytes self
+            → IfErr result (λ fault. IsMemoryOr fault (reported_connection bytes ≡ Err fault)) }
     {
         let MatrixReader {
             alloc,
-            ended,
-            begun,
-            standing,
+            complete_lines,
+            unfinished,
+            state,
         } = self;
-        let number = ended.saturating_add(1);
-        standing.after(alloc, number, &begun)?.matrix()
+        let number = complete_lines.saturating_add(1);
+        state.after(alloc, number, &unfinished)?.matrix()
     }
 }

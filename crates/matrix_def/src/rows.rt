@@ -6,7 +6,7 @@ ghost use Rattle.matrix_def.specs.Rows.{cell_of, IsRow};
 use lex_source::{Words, context_id, cost};
 use mj_model::{MatrixSizes, SourceKind};
 
-/// What a row says.
+/// The contents of a row.
 #[derive(Clone, Copy)]
 pub(crate) struct MatrixCell {
     pub(crate) right: u16,
@@ -14,7 +14,7 @@ pub(crate) struct MatrixCell {
     pub(crate) cost: i16,
 }
 
-/// The sizes that a header says.
+/// Reads the sizes in a header.
 pub(crate) fn read_sizes(line: &[u8]) -> Option<MatrixSizes>
     ensures value { result ≡ sizes_from (words_of line.now) }
     ensures some { IfSome result (λ sizes. (0 < sizes.right) × (0 < sizes.left)) }
@@ -27,7 +27,7 @@ pub(crate) fn read_sizes(line: &[u8]) -> Option<MatrixSizes>
     })
 }
 
-/// The cell that a row says, within the sizes.
+/// Reads a row, whose ids have to lie within the sizes.
 pub(crate) fn read_row(sizes: MatrixSizes, line: &[u8]) -> Result<MatrixCell, SourceKind>
     ensures { MatchResult result (λ cell. IsRow sizes line.now (cell_of cell))
         (λ kind. row_fault sizes line.now ≡ Some kind) }
@@ -42,7 +42,7 @@ pub(crate) fn read_row(sizes: MatrixSizes, line: &[u8]) -> Result<MatrixCell, So
     }
 }
 
-/// The cell that a row says.
+/// Reads a row with any ids.
 fn read_cell(line: &[u8]) -> Option<MatrixCell>
     ensures { option_map cell_of result ≡ cell_from (words_of line.now) }
 {
@@ -54,7 +54,7 @@ fn read_cell(line: &[u8]) -> Option<MatrixCell>
     })
 }
 
-/// A number from 1 to 65,535.
+/// Reads a number from 1 to 65,535.
 fn size(word: &[u8]) -> Option<u16>
     ensures value { result ≡ size_of word.now }
     ensures some { IfSome result (λ n. 0 < n) }
@@ -63,7 +63,7 @@ fn size(word: &[u8]) -> Option<u16>
     if size > 0 { Some(size) } else { None }
 }
 
-/// The words of a line that has exactly two.
+/// Returns the words of a line that has exactly two.
 fn two_words(line: &[u8]) -> Option<(&[u8], &[u8])>
     ensures { MatchOption result (length (words_of line.now) ≡ 2 → ⊥)
         (λ words. words_of line.now ≡ words.0.now ∷ words.1.now ∷ []) }
@@ -77,7 +77,7 @@ fn two_words(line: &[u8]) -> Option<(&[u8], &[u8])>
     Some((first, second))
 }
 
-/// The words of a line that has exactly three.
+/// Returns the words of a line that has exactly three.
 fn three_words(line: &[u8]) -> Option<(&[u8], &[u8], &[u8])>
     ensures { MatchOption result (length (words_of line.now) ≡ 3 → ⊥)
         (λ words. words_of line.now ≡ words.0.now ∷ words.1.now ∷ words.2.now ∷ []) }

@@ -1,5 +1,5 @@
--- The rows of a file that is read without a fault: their lines rise, their costs have 16 bits, there are few enough, and each is as the
--- judge of lines accepts it.
+-- The rows of a file without an error: their lines rise, their costs have 16 bits, there are few
+-- enough of them, and the judge of lines accepts each.
 use Rattle.std.proofs.Common.{◌≡◌, ℕ, ◌+◌, ◌<◌, ◌≤◌, ◌^◌, Bool, true, false, cond, ◌&&◌, List, [], ◌∷◌, length, refl, sym, ap, subst, arith}
 use Rattle.std.specs.Prelude.{ℤ, pos, neg_ℤ, int_le, Option, Some, None, Result, Ok, Err, nat_lt, option_and_then, option_map}
 use Rattle.std.specs.List.{AllByRecursion, enumerate_from}
@@ -9,7 +9,7 @@ use Rattle.mj_model.specs.declared.limits.TheConstants.{ENTRIES_MAX}
 use Rattle.mj_model.specs.declared.source_fault.SourceFault.{SourceFault}
 use Rattle.mj_model.specs.declared.source_fault.SourceKind.TheVariants.{TooManyEntries}
 use Rattle.mj_model.specs.Bounds.{IsWithin}
-use Rattle.mj_model.specs.Lexicon.{Row, Parts, Outcome, Blank, Skipped, Refused, Accepted, IsOutcome, AreOutcomes, row_from, first_refused, accepted_rows, Reading, reading_unless, ReadsAs}
+use Rattle.mj_model.specs.Lexicon.{Row, Parts, Outcome, Blank, Skipped, Refused, Accepted, IsOutcome, AreOutcomes, row_from, first_rejected, accepted_rows, Reading, reading_unless, ReadsAs}
 use Rattle.mj_model.specs.Lines.{source_lines}
 use Rattle.mj_model.specs.Numbers.{number, context_id, cost}
 
@@ -60,7 +60,7 @@ OnAccepted P Skipped = Unit {0}
 OnAccepted P (Refused kind) = Unit {0}
 OnAccepted P (Accepted row) = P row
 
--- the rows stand on lines from this one on, each on a later one than the row before
+-- the rows are on lines from this one on, each on a later line than the row before
 abbrev pub LinesRise : ℕ → List Row → Type 0
 LinesRise from [] = Unit {0}
 LinesRise from (row ∷ rows) = (from ≤ row.line) × LinesRise (row.line + 1) rows
@@ -73,17 +73,17 @@ few_by : (b : Bool) (held : ℕ) (fault : SourceFault) (others : Option SourceFa
 few_by true held fault others e h = (ltb-true held ENTRIES_MAX e, h)
 few_by false held fault others e h = absurd (cc)
 
-few_rows : (file number held : ℕ) (os : List Outcome) → held ≤ ENTRIES_MAX → first_refused file number held os ≡ None → held + length (accepted_rows os) ≤ ENTRIES_MAX
+few_rows : (file number held : ℕ) (os : List Outcome) → held ≤ ENTRIES_MAX → first_rejected file number held os ≡ None → held + length (accepted_rows os) ≤ ENTRIES_MAX
 few_rows file number held [] low h = omega (arith, low)
 few_rows file number held (Blank ∷ os) low h = few_rows file (number + 1) held os low h
 few_rows file number held (Skipped ∷ os) low h = few_rows file (number + 1) held os low h
 few_rows file number held (Refused kind ∷ os) low h = absurd (cc)
 few_rows file number held (Accepted row ∷ os) low h =
-    let p = few_by (nat_lt held ENTRIES_MAX) held (record { file = file; line = number; kind = TooManyEntries }) (first_refused file (number + 1) (held + 1) os) refl h in
+    let p = few_by (nat_lt held ENTRIES_MAX) held (record { file = file; line = number; kind = TooManyEntries }) (first_rejected file (number + 1) (held + 1) os) refl h in
     let rest = few_rows file (number + 1) (held + 1) os (omega (arith, p.0)) p.1 in
     omega (arith, rest)
 
--- rows of which each is so, behind this many
+-- rows that all have a property, after this many
 pub record AreReadRows (Is : Row → Type 0) (held : ℕ) (rows : List Row) : Type 0 where
   pub each : AllByRecursion Is rows
   pub rise : LinesRise 1 rows
@@ -120,8 +120,8 @@ module _ (judge : ℕ → Parts → Outcome) (Is : Row → Type 0) (judged : (nu
       let is = (outcome_has n line (Accepted row) h.0).0 in
       (omega (arith, is), subst (λ m. LinesRise (m + 1) (accepted_rows os)) (sym is) (rows_rise (n + 1) lines os h.1))
 
-  read_by : (file held : ℕ) (lines : Reading) (bytes : List ℕ) (os : List Outcome) (refused : Option SourceFault) → AreOutcomes judge (enumerate_from 1 (source_lines bytes)) os
-      → first_refused file 1 held os ≡ refused → ◌≡◌ {A = Result Reading SourceFault} (Ok lines) (reading_unless refused os) → AreReadRows Is held lines.rows
+  read_by : (file held : ℕ) (lines : Reading) (bytes : List ℕ) (os : List Outcome) (rejected : Option SourceFault) → AreOutcomes judge (enumerate_from 1 (source_lines bytes)) os
+      → first_rejected file 1 held os ≡ rejected → ◌≡◌ {A = Result Reading SourceFault} (Ok lines) (reading_unless rejected os) → AreReadRows Is held lines.rows
   read_by file held lines bytes os None are e h =
       subst (AreReadRows Is held) (sym (ap rows_in h)) (record {
         each = rows_have (enumerate_from 1 (source_lines bytes)) os are;
@@ -130,6 +130,6 @@ module _ (judge : ℕ → Parts → Outcome) (Is : Row → Type 0) (judged : (nu
       })
   read_by file held lines bytes os (Some fault) are e h = absurd (cc)
 
-  -- the rows of a file that is read without a fault
+  -- the rows of a file without an error
   pub rows_read : (file held : ℕ) (bytes : List ℕ) (lines : Reading) → ReadsAs judge file held bytes (Ok lines) → AreReadRows Is held lines.rows
-  rows_read file held bytes lines h = read_by file held lines bytes h.0 (first_refused file 1 held h.0) h.1 refl h.2
+  rows_read file held bytes lines h = read_by file held lines bytes h.0 (first_rejected file 1 held h.0) h.1 refl h.2

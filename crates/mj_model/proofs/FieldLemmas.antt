@@ -1,15 +1,16 @@
--- A text is a quoted field and its end in one way, since no doubled text begins as an end does; so a line has one first field.
+-- A text is a quoted field and its end in exactly one way, since no doubled text starts as an end
+-- does. So a line has exactly one first field.
 use Rattle.std.proofs.Common.{◌≡◌, ℕ, Bool, cond, List, [], ◌∷◌, ◌++◌, Option, None, ◌⊎◌, inl, inr, refl, sym, ap, ◌∙◌, subst}
 use Rattle.std.specs.List.{before_first}
 use Rattle.std.proofs.lemmas.Bool.{eq-eqb, ne_eqb, cases_eq}
 use Rattle.std.proofs.lemmas.List.{append-nil}
 use Rattle.mj_model.specs.Bytes.{is_comma, quote}
-use Rattle.mj_model.specs.Fields.{rest_of, with_doubled_quotes, BeginsWithQuote, IsFieldOf}
+use Rattle.mj_model.specs.Fields.{rest_of, with_doubled_quotes, StartsWithQuote, IsFieldOf}
 use Rattle.mj_model.proofs.Basics.{same_head, same_tail}
 
 -- the end of a quoted field: nothing, or a quote that no quote follows
 Tail : List ℕ → Type 0
-Tail t = (t ≡ []) ⊎ ((v : List ℕ) × (t ≡ quote ∷ v) × (BeginsWithQuote v → ⊥))
+Tail t = (t ≡ []) ⊎ ((v : List ℕ) × (t ≡ quote ∷ v) × (StartsWithQuote v → ⊥))
 
 pub doubled_quote : (c : ℕ) (cs : List ℕ) → c ≡ quote → with_doubled_quotes (c ∷ cs) ≡ quote ∷ quote ∷ with_doubled_quotes cs
 doubled_quote c cs e = ap (λ (b : Bool). cond b (quote ∷ quote ∷ []) (c ∷ []) ++ with_doubled_quotes cs) (eq-eqb c quote e)
@@ -17,10 +18,10 @@ doubled_quote c cs e = ap (λ (b : Bool). cond b (quote ∷ quote ∷ []) (c ∷
 pub doubled_other : (c : ℕ) (cs : List ℕ) → (c ≡ quote → ⊥) → with_doubled_quotes (c ∷ cs) ≡ c ∷ with_doubled_quotes cs
 doubled_other c cs e = ap (λ (b : Bool). cond b (quote ∷ quote ∷ []) (c ∷ []) ++ with_doubled_quotes cs) (ne_eqb c quote e)
 
-begins : (d : ℕ) (ds v : List ℕ) → v ≡ d ∷ ds → d ≡ quote → BeginsWithQuote v
-begins d ds v e is = subst BeginsWithQuote (sym e) is
+begins : (d : ℕ) (ds v : List ℕ) → v ≡ d ∷ ds → d ≡ quote → StartsWithQuote v
+begins d ds v e is = subst StartsWithQuote (sym e) is
 
--- a tail begins with no pair of quotes and no other character
+-- a tail starts with neither a pair of quotes nor another character
 tail_first : (t : List ℕ) (c : ℕ) (cs rest : List ℕ) → Tail t → t ≡ with_doubled_quotes (c ∷ cs) ++ rest → ⊥
 unfolding Tail
 tail_first t c cs rest (inl empty) h = elim (cases_eq c quote) [
@@ -93,26 +94,27 @@ parted (c ∷ d ∷ cs) = elim (cases_eq c quote) [
 
 -- ---- a line has one first field
 
--- the rest behind the end of a quoted field
-rest_at : List ℕ → Option (List ℕ)
-rest_at [] = None
-rest_at (c ∷ v) = rest_of v
+-- the remainder after the end of a quoted field
+remainder_after_quote : List ℕ → Option (List ℕ)
+remainder_after_quote [] = None
+remainder_after_quote (c ∷ v) = rest_of v
 
--- both ways in which a text that begins with a quote has its first field: what follows the quote is the doubled field and its end
+-- both forms of the first field of a text that starts with a quote: the doubled field and its end
+-- follow the quote
 record IsQuoted (u field : List ℕ) (rest : Option (List ℕ)) : Type 0 where
   tail : List ℕ
   is_tail : Tail tail
   spelled : u ≡ quote ∷ (with_doubled_quotes field ++ tail)
-  rest_is : rest ≡ rest_at tail
+  rest_is : rest ≡ remainder_after_quote tail
 
-quoted : (u field : List ℕ) (rest : Option (List ℕ)) → IsFieldOf u field rest → ((BeginsWithQuote u → ⊥) × (field ≡ before_first is_comma u) × (rest ≡ rest_of u)) ⊎ IsQuoted u field rest
-unfolding Tail rest_at
+quoted : (u field : List ℕ) (rest : Option (List ℕ)) → IsFieldOf u field rest → ((StartsWithQuote u → ⊥) × (field ≡ before_first is_comma u) × (rest ≡ rest_of u)) ⊎ IsQuoted u field rest
+unfolding Tail remainder_after_quote
 quoted u field rest (inl plain) = inl plain
 quoted u field rest (inr (inl (v, is, out, r))) = inr (record { tail = quote ∷ v; is_tail = inr (v, refl, out); spelled = is; rest_is = r })
 quoted u field rest (inr (inr (is, r))) = inr (record { tail = []; is_tail = inl refl; spelled = is ∙ ap (λ (xs : List ℕ). quote ∷ xs) (sym (append-nil (with_doubled_quotes field))); rest_is = r })
 
-begins_quoted : (u field : List ℕ) (rest : Option (List ℕ)) → IsQuoted u field rest → BeginsWithQuote u
-begins_quoted u field rest q = subst BeginsWithQuote (sym q.spelled) refl
+begins_quoted : (u field : List ℕ) (rest : Option (List ℕ)) → IsQuoted u field rest → StartsWithQuote u
+begins_quoted u field rest q = subst StartsWithQuote (sym q.spelled) refl
 
 pub one_field : (u f g : List ℕ) (r s : Option (List ℕ)) → IsFieldOf u f r → IsFieldOf u g s → (f ≡ g) × (r ≡ s)
 one_field u f g r s a b = elim (quoted u f r a) [
@@ -125,7 +127,7 @@ one_field u f g r s a b = elim (quoted u f r a) [
     | inr q ↦
         let e : with_doubled_quotes f ++ p.tail ≡ with_doubled_quotes g ++ q.tail = same_tail quote quote (with_doubled_quotes f ++ p.tail) (with_doubled_quotes g ++ q.tail) (sym p.spelled ∙ q.spelled) in
         let w = one_way f g p.tail q.tail p.is_tail q.is_tail e in
-        (w.0, p.rest_is ∙ ap rest_at w.1 ∙ sym q.rest_is)
+        (w.0, p.rest_is ∙ ap remainder_after_quote w.1 ∙ sym q.rest_is)
   ]
 ]
 

@@ -1,4 +1,5 @@
--- A lexicon's bytes have exactly one reading: each line has one outcome, since it has one first field and one rest, and so has each rest.
+-- A lexicon's bytes have exactly one reading. Each line has exactly one first field and remainder,
+-- and so has each remainder, so that each line has exactly one outcome.
 use Rattle.std.proofs.Common.{◌≡◌, ℕ, ◌≤◌, false, List, [], ◌∷◌, length, refl, sym, ap, ◌∙◌, subst, arith, inl, inr}
 use Rattle.std.specs.Prelude.{Option, Some, None, Result, IsUtf8}
 use Rattle.std.specs.Str.{is_utf8}
@@ -6,15 +7,15 @@ use Rattle.std.proofs.lemmas.Bool.{cases_Bool}
 use Rattle.std.proofs.lemmas.Str.{is_utf8-from_IsUtf8, IsUtf8-from_is_utf8}
 use Rattle.mj_model.specs.declared.source_fault.SourceFault.{SourceFault}
 use Rattle.mj_model.specs.declared.source_fault.SourceKind.TheVariants.{NotUtf8, TooFewFields}
-use Rattle.mj_model.specs.Fields.{without_blanks, IsFirstField, AreFields, AreFirstFields}
-use Rattle.mj_model.specs.Lexicon.{Parts, Outcome, Blank, Refused, IsOutcome, AreOutcomes, first_refused, Reading, reading_unless, ReadsAs}
+use Rattle.mj_model.specs.Fields.{without_leading_blanks, IsFirstField, AreFields, AreFirstFields}
+use Rattle.mj_model.specs.Lexicon.{Parts, Outcome, Blank, Refused, IsOutcome, AreOutcomes, first_rejected, Reading, reading_unless, ReadsAs}
 use Rattle.mj_model.specs.Lines.{numbered_lines, is_blank_line}
 use Rattle.mj_model.proofs.FieldLemmas.{a_field, one_field}
 
 -- ---- the parts of a line
 
 one_first : (line f g : List ℕ) (r s : Option (List ℕ)) → IsFirstField line f r → IsFirstField line g s → (f ≡ g) × (r ≡ s)
-one_first line f g r s h k = one_field (without_blanks line) f g r s h k
+one_first line f g r s h k = one_field (without_leading_blanks line) f g r s h k
 
 some_rest : (line f g next other : List ℕ) → IsFirstField line f (Some next) → IsFirstField line g (Some other) → (f ≡ g) × (next ≡ other)
 some_rest line f g next other h k = let p = one_first line f g (Some next) (Some other) h k in (p.0, (let e = p.1 in cc))
@@ -32,7 +33,7 @@ one_front line (f ∷ fs) (g ∷ gs) rest other e h k =
     let q = one_front k.0 fs gs rest other (omega (arith, e)) (subst (λ n. AreFirstFields n fs rest) p.1 h.2) k.2 in
     (ap (λ x. x ∷ fs) p.0 ∙ ap (λ xs. g ∷ xs) q.0, q.1)
 
--- a line with as many first fields and a rest has more fields than that
+-- a line with as many first fields and a remainder has more fields than that
 more_fields : (line : List ℕ) (fields fs : List (List ℕ)) (rest : List ℕ) → AreFields line fields → AreFirstFields line fs rest → length fields ≤ length fs → ⊥
 more_fields line [] fs rest are front few = are
 more_fields line (field ∷ []) [] rest are front few = omega (arith, few)
@@ -108,7 +109,7 @@ module _ (judge : ℕ → Parts → Outcome) where
   pub readings_are_one : (file held : ℕ) (bytes : List ℕ) (reading other : Result Reading SourceFault) → ReadsAs judge file held bytes reading → ReadsAs judge file held bytes other → other ≡ reading
   readings_are_one file held bytes reading other h k =
       let same = outcomes_are_one (numbered_lines bytes) h.0 k.0 h.1 k.1 in
-      k.2 ∙ sym (ap (λ os. reading_unless (first_refused file 1 held os) os) same) ∙ sym h.2
+      k.2 ∙ sym (ap (λ os. reading_unless (first_rejected file 1 held os) os) same) ∙ sym h.2
 
   -- ---- each line has an outcome
 
@@ -124,23 +125,23 @@ module _ (judge : ℕ → Parts → Outcome) where
       → IsFirstField line a (Some next) → IsFirstField next b (Some after) → IsFirstField after c rest → (o : Outcome) × IsOutcome judge number line o
   with_three number line a b c next after None some utf8 h k l = (Refused TooFewFields, IsOutcome.too_few some utf8 (a ∷ b ∷ c ∷ []) (next, h, (after, k, l)) (omega arith))
   with_three number line a b c next after (Some third) some utf8 h k l =
-      let d = a_field (without_blanks third) in with_four number line a b c d.0 next after third d.1 some utf8 h k l d.2
+      let d = a_field (without_leading_blanks third) in with_four number line a b c d.0 next after third d.1 some utf8 h k l d.2
 
   with_two : (number : ℕ) (line a b : List ℕ) (next : List ℕ) (rest : Option (List ℕ)) → is_blank_line line ≡ false → IsUtf8 line
       → IsFirstField line a (Some next) → IsFirstField next b rest → (o : Outcome) × IsOutcome judge number line o
   with_two number line a b next None some utf8 h k = (Refused TooFewFields, IsOutcome.too_few some utf8 (a ∷ b ∷ []) (next, h, k) (omega arith))
   with_two number line a b next (Some after) some utf8 h k =
-      let c = a_field (without_blanks after) in with_three number line a b c.0 next after c.1 some utf8 h k c.2
+      let c = a_field (without_leading_blanks after) in with_three number line a b c.0 next after c.1 some utf8 h k c.2
 
   with_one : (number : ℕ) (line a : List ℕ) (rest : Option (List ℕ)) → is_blank_line line ≡ false → IsUtf8 line → IsFirstField line a rest → (o : Outcome) × IsOutcome judge number line o
   with_one number line a None some utf8 h = (Refused TooFewFields, IsOutcome.too_few some utf8 (a ∷ []) h (omega arith))
-  with_one number line a (Some next) some utf8 h = let b = a_field (without_blanks next) in with_two number line a b.0 next b.1 some utf8 h b.2
+  with_one number line a (Some next) some utf8 h = let b = a_field (without_leading_blanks next) in with_two number line a b.0 next b.1 some utf8 h b.2
 
   an_outcome : (number : ℕ) (line : List ℕ) → (o : Outcome) × IsOutcome judge number line o
   an_outcome number line = elim (cases_Bool (is_blank_line line)) [
     | inl blank ↦ (Blank, IsOutcome.is_blank blank)
     | inr some ↦ elim (cases_Bool (is_utf8 line)) [
-      | inl text ↦ let a = a_field (without_blanks line) in with_one number line a.0 a.1 some (IsUtf8-from_is_utf8 line text) a.2
+      | inl text ↦ let a = a_field (without_leading_blanks line) in with_one number line a.0 a.1 some (IsUtf8-from_is_utf8 line text) a.2
       | inr no_text ↦ (Refused NotUtf8, IsOutcome.not_text some (λ utf8. let e = is_utf8-from_IsUtf8 line utf8 in cc))
     ]
   ]
@@ -150,4 +151,4 @@ module _ (judge : ℕ → Parts → Outcome) where
   some_outcomes (line ∷ lines) = let o = an_outcome line.0 line.1 in let more = some_outcomes lines in (o.0 ∷ more.0, (o.1, more.1))
 
   pub a_reading : (file held : ℕ) (bytes : List ℕ) → (reading : Result Reading SourceFault) × ReadsAs judge file held bytes reading
-  a_reading file held bytes = let os = some_outcomes (numbered_lines bytes) in (reading_unless (first_refused file 1 held os.0) os.0, (os.0, os.1, refl))
+  a_reading file held bytes = let os = some_outcomes (numbered_lines bytes) in (reading_unless (first_rejected file 1 held os.0) os.0, (os.0, os.1, refl))

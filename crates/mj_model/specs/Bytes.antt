@@ -1,4 +1,4 @@
--- Bytes that the source files and the texts give a meaning to.
+-- Bytes with a meaning in the source files and in texts.
 use Rattle.std.specs.Prelude.{ℕ, Bool, ◌||◌, ◌==◌}
 
 abbrev pub line_feed : ℕ

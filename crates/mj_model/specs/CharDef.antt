@@ -1,5 +1,6 @@
--- Character categories, as `char.def` defines them and gives them to code points (MeCab): category lines `NAME INVOKE GROUP LENGTH`, and
--- mapping lines `0xHEX CAT ..` or `0xLOW..0xHIGH CAT ..`. What MeCab leaves open is this project's own choice.
+-- Character categories, as `char.def` defines them and assigns them to code points (MeCab).
+-- Category lines are `NAME INVOKE GROUP LENGTH`; mapping lines are `0xHEX CAT ..` or `0xLOW..0xHIGH
+-- CAT ..`. What MeCab leaves open is this project's own choice.
 use Rattle.std.specs.Prelude.{ℕ, ◌+◌, ◌*◌, ◌^◌, Bool, not, ◌==◌, ◌&&◌, nat_lt, nat_le, if◌then◌else◌, List, [], ◌∷◌, ◌++◌, length, drop, map, fold, flat_map, find, reverse, take_while, Option, Some, None, option_and_then, option_map, Result, Ok, Err, bit_or, bytes_eq, codes, ◌<◌, ◌≤◌, IsUtf8}
 use Rattle.std.specs.Char.{is_ascii_hexdigit, digit_value}
 use Rattle.std.specs.Int.{IsBitSet}
@@ -19,43 +20,43 @@ use Rattle.mj_model.specs.Numbers.{natural_in}
 use Rattle.mj_model.specs.Connection.{words_of}
 use Rattle.mj_model.specs.FirstFault.{fault_or, first_fault}
 
--- a category and its name
+-- a category with its name
 pub record NamedCategory : Type 0 where
   pub name : List ℕ
   pub category : Category
 
--- code points, from the low one to the high one
+-- the code points from `low` to `high`, both included
 pub record Range : Type 0 where
   pub low : ℕ
   pub high : ℕ
 
--- the code points of a range have these categories: the first one that is named, and the others
+-- a mapping: the code points of a range, the category listed first, and the others
 pub record Mapping : Type 0 where
   pub range : Range
   pub first : List ℕ
   pub others : List (List ℕ)
 
--- what `char.def` says: its categories and its mappings, in the order of their lines
+-- the contents of `char.def`: its categories and its mappings, in the order of their lines
 pub record CharSource : Type 0 where
   pub categories : List NamedCategory
   pub mappings : List Mapping
 
--- what a line says: nothing, a category, a mapping, or something that is refused
+-- the contents of a line: nothing, a category, a mapping, or an error
 pub data CharLine : Type 0 where
   Nothing : CharLine
   Defines : NamedCategory → CharLine
   Maps : Mapping → CharLine
   Bad : SourceKind → CharLine
 
--- a word with which a comment begins
-abbrev pub begins_comment : List ℕ → Bool
-begins_comment word = starts_with (λ a b. a == b) word (hash ∷ [])
+-- a word that starts a comment
+abbrev pub starts_comment : List ℕ → Bool
+starts_comment word = starts_with (λ a b. a == b) word (hash ∷ [])
 
 -- the words of a line before its comment
 abbrev pub words_before_comment : List ℕ → List (List ℕ)
-words_before_comment line = take_while (λ word. not (begins_comment word)) (words_of line)
+words_before_comment line = take_while (λ word. not (starts_comment word)) (words_of line)
 
--- a word that may be the name of a category: UTF-8 of at most `CATEGORY_NAME_MAX` bytes
+-- a valid name of a category: UTF-8 of at most `CATEGORY_NAME_MAX` bytes
 abbrev pub is_name : List ℕ → Bool
 is_name word = nat_le (length word) CATEGORY_NAME_MAX && is_utf8 word
 
@@ -63,11 +64,11 @@ is_name word = nat_le (length word) CATEGORY_NAME_MAX && is_utf8 word
 abbrev pub flag : List ℕ → Option Bool
 flag word = option_map (λ n. n == 1) (natural_in 1 word)
 
--- LENGTH
+-- LENGTH: a number up to `CATEGORY_LENGTH_MAX`
 abbrev pub category_length : List ℕ → Option ℕ
 category_length word = natural_in CATEGORY_LENGTH_MAX word
 
--- INVOKE, GROUP and LENGTH
+-- the category with INVOKE, GROUP and LENGTH, if all three are valid
 abbrev pub category_of : List ℕ → List ℕ → List ℕ → Option Category
 category_of invoke group len =
     option_and_then (λ invokes. option_and_then (λ groups. option_map (λ n.
@@ -77,7 +78,7 @@ category_of invoke group len =
 abbrev pub category_named : List ℕ → Category → NamedCategory
 category_named name category = record { name = name; category = category }
 
--- the words of a category line; those behind the fourth mean nothing
+-- the category of a category line; words after the fourth are ignored
 abbrev pub category_from : List (List ℕ) → Option NamedCategory
 category_from (name ∷ invoke ∷ group ∷ len ∷ more) = if is_name name then option_map (category_named name) (category_of invoke group len) else None
 category_from [] = None
@@ -85,42 +86,42 @@ category_from (name ∷ []) = None
 category_from (name ∷ invoke ∷ []) = None
 category_from (name ∷ invoke ∷ group ∷ []) = None
 
--- `0x`
+-- the prefix `0x`
 abbrev pub hex_prefix : List ℕ
 hex_prefix = codes "0x"
 
-abbrev pub begins_with_hex : List ℕ → Bool
-begins_with_hex word = starts_with (λ a b. a == b) word hex_prefix
+abbrev pub starts_with_hex : List ℕ → Bool
+starts_with_hex word = starts_with (λ a b. a == b) word hex_prefix
 
 -- the value of hexadecimal digits, in either case
 abbrev pub hex_value : List ℕ → ℕ
 hex_value digits = fold (λ value c. 16 * value + digit_value c) 0 digits
 
--- one or more hexadecimal digits
+-- the value of one or more hexadecimal digits
 abbrev pub hex_digits : List ℕ → Option ℕ
 hex_digits digits = if nat_lt 0 (length digits) && list_all is_ascii_hexdigit digits then Some (hex_value digits) else None
 
--- `0xHEX`
+-- the value of `0xHEX`
 abbrev pub hexadecimal : List ℕ → Option ℕ
-hexadecimal text = if begins_with_hex text then hex_digits (drop (length hex_prefix) text) else None
+hexadecimal text = if starts_with_hex text then hex_digits (drop (length hex_prefix) text) else None
 
 -- the greatest code point
 abbrev pub code_point_max : ℕ
 code_point_max = CODE_POINT_MAX
 
--- a range within Unicode
+-- the range from `low` to `high`, if it is a range within Unicode
 abbrev pub range_from : ℕ → ℕ → Option Range
 range_from low high = if nat_le low high && nat_le high code_point_max then Some (record { low = low; high = high }) else None
 
 abbrev pub is_full_stop : ℕ → Bool
 is_full_stop c = c == full_stop
 
--- the high end, which stands behind a second full stop
+-- the high end of a range, which follows the second full stop
 abbrev pub high_end : List ℕ → Option ℕ
 high_end [] = None
 high_end (c ∷ text) = if is_full_stop c then hexadecimal text else None
 
--- `0xHEX` or `0xLOW..0xHIGH`
+-- the range that `0xHEX` or `0xLOW..0xHIGH` denotes
 abbrev pub range_of : List ℕ → Option Range
 range_of word =
     if list_any is_full_stop word
@@ -131,7 +132,7 @@ abbrev pub mapping_or : Option Range → List ℕ → List (List ℕ) → CharLi
 mapping_or None first others = Bad BadRange
 mapping_or (Some range) first others = Maps (record { range = range; first = first; others = others })
 
--- the words of a mapping line: the range, and one name or more
+-- the contents of a mapping line: a range, and one or more names
 abbrev pub mapping_line : List ℕ → List (List ℕ) → CharLine
 mapping_line range [] = Bad BadLine
 mapping_line range (first ∷ others) = if list_all is_name (first ∷ others) then mapping_or (range_of range) first others else Bad BadLine
@@ -140,16 +141,16 @@ abbrev pub category_or : Option NamedCategory → CharLine
 category_or None = Bad BadLine
 category_or (Some category) = Defines category
 
--- the words of a line
+-- the contents of a line with these words
 abbrev pub line_from : List (List ℕ) → CharLine
 line_from [] = Nothing
-line_from (word ∷ words) = if begins_with_hex word then mapping_line word words else category_or (category_from (word ∷ words))
+line_from (word ∷ words) = if starts_with_hex word then mapping_line word words else category_or (category_from (word ∷ words))
 
--- what a line says by itself
+-- the contents of a line, apart from all other lines
 abbrev pub char_line : List ℕ → CharLine
 char_line line = line_from (words_before_comment line)
 
--- a category has this name
+-- the category has this name
 abbrev pub is_named : List ℕ → NamedCategory → Bool
 is_named name category = bytes_eq category.name name
 
@@ -157,11 +158,11 @@ is_named name category = bytes_eq category.name name
 abbrev pub is_defined : List NamedCategory → List ℕ → Bool
 is_defined categories name = list_any (is_named name) categories
 
--- the number of the category of this name, from 0
+-- the number of the category of this name, counted from 0
 abbrev pub category_number : List NamedCategory → List ℕ → ℕ
 category_number categories name = position_or_len (is_named name) categories
 
--- the category that a line defines
+-- the category that a line defines, if any
 abbrev pub defined_by : CharLine → List NamedCategory
 defined_by Nothing = []
 defined_by (Defines category) = category ∷ []
@@ -174,7 +175,7 @@ mapped_by (Defines category) = []
 mapped_by (Maps mapping) = mapping ∷ []
 mapped_by (Bad kind) = []
 
--- what is wrong with a line where these categories are defined before it
+-- the error of a line, if the categories `before` are defined before it
 abbrev pub line_fault : List NamedCategory → CharLine → Option SourceKind
 line_fault before Nothing = None
 line_fault before (Defines category) =
@@ -184,38 +185,38 @@ line_fault before (Defines category) =
 line_fault before (Maps mapping) = None
 line_fault before (Bad kind) = Some kind
 
--- what is wrong with a mapping where these are all categories
+-- the error of a mapping, if `categories` are all categories
 abbrev pub mapping_fault : List NamedCategory → CharLine → Option SourceKind
 mapping_fault categories Nothing = None
 mapping_fault categories (Defines category) = None
 mapping_fault categories (Maps mapping) = if list_all (is_defined categories) (mapping.first ∷ mapping.others) then None else Some UndefinedCategory
 mapping_fault categories (Bad kind) = None
 
--- the first bad one of the numbered lines, where these categories are defined before them
+-- the first error of the numbered lines, if the categories `before` are defined before them
 abbrev pub first_bad_line : List NamedCategory → List (ℕ × List ℕ) → Option SourceFault
 first_bad_line before [] = None
 first_bad_line before (line ∷ lines) =
     fault_or CHAR_FILE line.0 (line_fault before (char_line line.1)) (first_bad_line (before ++ defined_by (char_line line.1)) lines)
 
--- the categories that every `char.def` defines
+-- the names of the categories that every `char.def` defines
 abbrev pub default_name : List ℕ
 default_name = codes "DEFAULT"
 
 abbrev pub space_name : List ℕ
 space_name = codes "SPACE"
 
--- a category that is not defined is a fault of the file as a whole
+-- the error of an undefined category, which belongs to the file as a whole
 abbrev pub unless_defined : List NamedCategory → List ℕ → SourceKind → Option SourceFault
 unless_defined categories name kind = if is_defined categories name then None else Some (record { file = CHAR_FILE; line = 0; kind = kind })
 
--- what the lines say, whether it is refused or not
+-- the contents of the lines, valid or not
 abbrev pub source_from : List (ℕ × List ℕ) → CharSource
 source_from lines = record {
   categories = flat_map (λ line. defined_by (char_line line.1)) lines;
   mappings = flat_map (λ line. mapped_by (char_line line.1)) lines;
 }
 
--- what is wrong with all lines together where these are the categories
+-- the first error that all lines have together, if `categories` are all categories
 abbrev pub whole_fault : List NamedCategory → List (ℕ × List ℕ) → Option SourceFault
 whole_fault categories lines =
     option_or (unless_defined categories default_name NoDefault)
@@ -229,7 +230,7 @@ source_unless None source = Ok source
 abbrev pub char_source_from : List (ℕ × List ℕ) → Result CharSource SourceFault
 char_source_from lines = source_unless (option_or (first_bad_line [] lines) (whole_fault (source_from lines).categories lines)) (source_from lines)
 
--- what the bytes of `char.def` say, or their first fault
+-- the contents of the bytes of `char.def`, or their first error
 abbrev pub char_source : List ℕ → Result CharSource SourceFault
 char_source bytes = char_source_from (numbered_lines bytes)
 
@@ -237,14 +238,14 @@ char_source bytes = char_source_from (numbered_lines bytes)
 abbrev pub category_bits : List NamedCategory → List (List ℕ) → ℕ
 category_bits categories names = fold (λ bits name. bit_or bits (2 ^ category_number categories name)) 0 names
 
--- the categories of these names, the first one apart
+-- the categories of these names, with the one listed first
 abbrev pub info_of_names : List NamedCategory → List ℕ → List (List ℕ) → CharInfo
 info_of_names categories first others = record { bits = category_bits categories (first ∷ others); head = category_number categories first }
 
 abbrev pub covers : ℕ → Mapping → Bool
 covers code mapping = nat_le mapping.range.low code && nat_le code mapping.range.high
 
--- the categories of a code point: those of the last mapping that covers it, else DEFAULT alone
+-- the categories of a code point: those of the last mapping that covers it, or DEFAULT alone
 abbrev pub char_info : CharSource → ℕ → CharInfo
 char_info source code =
     option_map_or (λ (mapping : Mapping). info_of_names source.categories mapping.first mapping.others)
@@ -254,7 +255,7 @@ char_info source code =
 abbrev pub categories_of : CharSource → List Category
 categories_of source = map (λ (c : NamedCategory). c.category) source.categories
 
--- ---- what an image may hold
+-- ---- limits of an image
 
 -- a category that an image may hold
 pub record IsStorable (c : NamedCategory) : Type 0 where

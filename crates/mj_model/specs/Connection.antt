@@ -1,5 +1,5 @@
--- Connection costs, as `matrix.def` lists them (MeCab): two sizes, then rows of the right id of the word before, the left id of the
--- word behind it, and the cost of setting them so.
+-- Connection costs, as `matrix.def` lists them (MeCab). Two sizes come first. Each row then has the
+-- right id of a word, the left id of the following word, and the cost of connecting them.
 use Rattle.std.specs.Prelude.{ℕ, ◌*◌, ◌<◌, ◌≤◌, ℤ, pos, Bool, not, ◌==◌, ◌&&◌, nat_lt, nat_le, if◌then◌else◌, List, [], ◌∷◌, length, filter, filter_map, find, reverse, Option, Some, None, option_and_then, option_map, Result, Ok, Err}
 use Rattle.std.specs.List.{slice_split}
 use Rattle.std.specs.Option.{option_map_or}
@@ -28,7 +28,7 @@ pub record Connection : Type 0 where
   pub sizes : MatrixSizes
   pub cells : List Cell
 
--- sizes that a connection table may have
+-- the sizes that a connection table may have
 pub record AreMatrixSizes (sizes : MatrixSizes) : Type 0 where
   pub right_some : 0 < sizes.right
   pub right_most : sizes.right ≤ MATRIX_SIZE_MAX
@@ -40,14 +40,14 @@ pub record AreMatrixSizes (sizes : MatrixSizes) : Type 0 where
 abbrev pub size : List ℕ → Option ℕ
 size word = option_and_then (λ n. if nat_lt 0 n then Some n else None) (natural_in MATRIX_SIZE_MAX word)
 
--- the words of a header
+-- the sizes in a header with these words
 abbrev pub sizes_from : List (List ℕ) → Option MatrixSizes
 sizes_from (first ∷ second ∷ []) = option_and_then (λ right. option_map (λ left. record { right = right; left = left }) (size second)) (size first)
 sizes_from [] = None
 sizes_from (first ∷ []) = None
 sizes_from (first ∷ second ∷ third ∷ more) = None
 
--- the words of a row
+-- the row with these words
 abbrev pub cell_from : List (List ℕ) → Option Cell
 cell_from (first ∷ second ∷ third ∷ []) =
     option_and_then (λ right. option_and_then (λ left. option_map (λ price. record { right = right; left = left; cost = price }) (cost third)) (context_id second)) (context_id first)
@@ -60,7 +60,7 @@ cell_from (first ∷ second ∷ third ∷ fourth ∷ more) = None
 abbrev pub is_pair : MatrixSizes → ℕ → ℕ → Bool
 is_pair sizes right left = nat_lt right sizes.right && nat_lt left sizes.left
 
--- what is wrong with a row
+-- the error of a row
 abbrev pub cell_fault : MatrixSizes → Option Cell → Option SourceKind
 cell_fault sizes None = Some BadRow
 cell_fault sizes (Some cell) = if is_pair sizes cell.right cell.left then None else Some PairOutside
@@ -82,16 +82,16 @@ connection_under line (Some sizes) rows =
     then connection_unless (first_fault MATRIX_FILE (row_fault sizes) rows) sizes rows
     else Err (matrix_fault line TooLarge)
 
--- the first line is the header
+-- the contents of numbered lines, of which the first is the header
 abbrev pub connection_from : List (ℕ × List ℕ) → Result Connection SourceFault
 connection_from [] = Err (matrix_fault 0 BadHeader)
 connection_from (header ∷ rows) = connection_under header.0 (sizes_from (words_of header.1)) rows
 
--- what the bytes of `matrix.def` say, or their first fault; blank lines are passed over
+-- the contents of the bytes of `matrix.def`, or their first error; blank lines are skipped
 abbrev pub connection_of : List ℕ → Result Connection SourceFault
 connection_of bytes = connection_from (filter (λ line. not (is_blank_line line.1)) (numbered_lines bytes))
 
--- the connection cost of a right id and a left id: that of the last row with both, else 0
+-- the connection cost of a right id and a left id: the cost in the last row with both, or 0
 abbrev pub connection_cost : Connection → ℕ → ℕ → ℤ
 connection_cost connection right left =
     option_map_or (λ (cell : Cell). cell.cost) (find (λ cell. cell.right == right && cell.left == left) (reverse connection.cells)) (pos 0)

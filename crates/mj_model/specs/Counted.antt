@@ -1,4 +1,4 @@
--- What a counted reader or writer holds.
+-- The fields of a counted reader or writer.
 use Rattle.std.specs.Prelude.{ℕ, Bool}
 use Rattle.mj_model.specs.declared.counted.Counted.{Counted}
 

@@ -1,5 +1,6 @@
--- The dictionary of a list of lexicons: their accepted lines in the byte order of the surfaces, those of one surface in source
--- order, each with its place in this list as its number.
+-- The dictionary of a list of lexicons: their accepted lines, sorted by the bytes of the surfaces.
+-- Lines with equal surfaces keep their source order. The number of an entry is its index in this
+-- list.
 use Rattle.std.specs.Prelude.{◌≡◌, ℕ, ◌+◌, min, if◌then◌else◌, List, [], ◌∷◌, ◌++◌, length, map, Option, Some, None, Result, Ok, Err, IsSortedByKey, ◌⊎◌}
 use Rattle.std.specs.Cmp.Lexicographic.{slice_cmp}
 use Rattle.std.specs.List.{enumerate_from}
@@ -16,21 +17,21 @@ use Rattle.mj_model.specs.Tables.{Lexeme}
 abbrev pub surface_of : Row → List ℕ
 surface_of row = row.surface
 
--- the rows in the byte order of their surfaces; those of one surface stand in their order
+-- the rows sorted by the bytes of their surfaces; rows with equal surfaces keep their order
 pub record IsInOrder (rows ordered : List Row) : Type 0 where
   pub same_rows : IsPermutation rows ordered
   pub by_surface : IsSortedByKey surface_of (slice_cmp nat_cmp) ordered
   pub in_source_order : IsStableByKey surface_of (slice_cmp nat_cmp) rows ordered
 
--- a row by its number
+-- the entry of a numbered row
 abbrev pub lexeme_of : (ℕ × Row) → Lexeme
 lexeme_of r = record { surface = r.1.surface; token = record { number = r.0; left = r.1.left; right = r.1.right; cost = r.1.cost; feature = r.1.feature } }
 
--- the lexicon of a dictionary that is made of these rows
+-- the lexicon of a dictionary with these rows
 abbrev pub IsLexiconOf : List Row → List Lexeme → Type 0
 IsLexiconOf rows lexicon = (ordered : List Row) × IsInOrder rows ordered × (lexicon ≡ map lexeme_of (enumerate_from 0 ordered))
 
--- the first row whose ids lie outside the sizes
+-- the error of the first row whose ids lie outside the sizes
 abbrev pub first_outside : ℕ → MatrixSizes → List Row → Option SourceFault
 first_outside file sizes [] = None
 first_outside file sizes (row ∷ rows) =
@@ -38,11 +39,12 @@ first_outside file sizes (row ∷ rows) =
     then first_outside file sizes rows
     else Some (record { file = file; line = row.line; kind = IdOutside })
 
--- the number of the file behind a lexicon; numbers end at the greatest but one of 32 bits
+-- the number of the file after a lexicon, at most `LAST_LEXICON_FILE`
 abbrev pub next_file : ℕ → ℕ
 next_file file = min (file + 1) LAST_LEXICON_FILE
 
--- the lexicons from a file number on read so, after these rows: all rows, or the first fault; of each file what its lines say is looked at before its ids
+-- the result of reading the lexicons from number `file` on, after the rows `before`: all rows, or
+-- the first error; the contents of each file are checked before its ids
 abbrev pub AreLexicons : MatrixSizes → ℕ → List Row → List (List ℕ) → Result (List Row) SourceFault → Type 0
 AreLexicons sizes file before [] read = read ≡ Ok before
 AreLexicons sizes file before (bytes ∷ more) read =

@@ -1,4 +1,4 @@
--- The code and the name of each fault, as they are printed.
+-- The code and the name of each error, as they are printed.
 use Rattle.std.specs.Prelude.{ℕ, List, codes}
 use Rattle.mj_model.specs.declared.source_fault.SourceKind.{SourceKind}
 use Rattle.mj_model.specs.declared.source_fault.SourceKind.TheVariants.{NotUtf8, TooFewFields, BadNumber, SurfaceTooLong, TooManyEntries, BadHeader, BadRow, PairOutside, TooLarge, BadLine, BadRange, Twice, UndefinedCategory, TooManyCategories, NoDefault, NoSpace, NoSuchCategory, MissingCategory, IdOutside, ArrayFull, FeaturesTooLarge, Memory}

@@ -1,19 +1,19 @@
--- The first fault of a source, and what a reader may answer.
+-- The first error of a source.
 use Rattle.std.specs.Prelude.{◌≡◌, ℕ, List, [], ◌∷◌, ◌⊎◌, Option, Some, None}
 use Rattle.mj_model.specs.declared.source_fault.SourceFault.{SourceFault}
 use Rattle.mj_model.specs.declared.source_fault.SourceKind.{SourceKind}
 use Rattle.mj_model.specs.declared.source_fault.SourceKind.TheVariants.{Memory}
 
--- a line's fault, else that of the lines behind it
+-- the error of a line, or else that of the following lines
 abbrev pub fault_or : ℕ → ℕ → Option SourceKind → Option SourceFault → Option SourceFault
 fault_or file line None others = others
 fault_or file line (Some kind) others = Some (record { file = file; line = line; kind = kind })
 
--- the first of a file's numbered lines at which a test finds a fault
+-- the first error that a test finds in the numbered lines of a file
 abbrev pub first_fault : ℕ → (List ℕ → Option SourceKind) → List (ℕ × List ℕ) → Option SourceFault
 first_fault file test [] = None
 first_fault file test (line ∷ lines) = fault_or file line.0 (test line.1) (first_fault file test lines)
 
--- a refusal is for want of memory, or has its cause
-abbrev pub IsRefusal : SourceFault → Type 0 → Type 0
-IsRefusal fault Cause = (fault.kind ≡ Memory) ⊎ Cause
+-- the error is a failed allocation, or it has this cause
+abbrev pub IsMemoryOr : SourceFault → Type 0 → Type 0
+IsMemoryOr fault Cause = (fault.kind ≡ Memory) ⊎ Cause

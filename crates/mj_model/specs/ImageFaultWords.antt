@@ -1,4 +1,4 @@
--- The code and the name of each fault of images and of overlays, as they are printed.
+-- The code and the name of each error of images and of overlays, as they are printed.
 use Rattle.std.specs.Prelude.{codes}
 use Rattle.mj_model.specs.declared.image_fault.ImageFault.{ImageFault}
 use Rattle.mj_model.specs.declared.image_fault.ImageFault.TheVariants as image

@@ -1,5 +1,5 @@
--- What the lines of a lexicon say: `surface,left id,right id,word cost,feature` (MeCab, dic-detail).
--- The feature is all that stands behind the fourth comma, byte for byte.
+-- The lines of a lexicon: `surface,left id,right id,word cost,feature` (MeCab, dic-detail). The
+-- feature is everything after the fourth comma, byte for byte.
 use Rattle.std.specs.Prelude.{◌≡◌, ℕ, ◌+◌, ◌≤◌, ℤ, IsTrue, IsFalse, ◌==◌, nat_le, nat_lt, if◌then◌else◌, List, [], ◌∷◌, length, count_by, filter_map, map, Option, Some, None, option_and_then, option_map, Result, Ok, Err, IsUtf8, Bool, true, false, sum}
 use Rattle.std.specs.Cow.{cow_str_bytes}
 use Rattle.std.specs.List.{AllZip}
@@ -12,7 +12,7 @@ use Rattle.mj_model.specs.Lines.{numbered_lines, is_blank_line}
 use Rattle.mj_model.specs.Fields.{AreFields, AreFirstFields}
 use Rattle.mj_model.specs.Numbers.{context_id, cost}
 
--- an accepted line: a record without where it lies in memory
+-- an accepted line: the contents of a record
 pub record Row : Type 0 where
   pub line : ℕ
   pub surface : List ℕ
@@ -27,7 +27,7 @@ row_of r = record { line = r.line; surface = cow_str_bytes r.surface; left = r.e
 abbrev pub rows_of : List Record → List Row
 rows_of = map row_of
 
--- the first four fields of a line as they stand, and what follows them
+-- the first four fields of a line, and the remainder
 pub record Parts : Type 0 where
   pub surface : List ℕ
   pub left : List ℕ
@@ -35,14 +35,15 @@ pub record Parts : Type 0 where
   pub cost : List ℕ
   pub feature : List ℕ
 
--- a line's parts as a row, if its numbers are in range
+-- the row of a line's parts, if its numbers are in range
 abbrev pub row_from : ℕ → Parts → Option Row
 row_from line parts =
     option_and_then (λ left. option_and_then (λ right. option_map (λ price.
     record { line = line; surface = parts.surface; left = left; right = right; cost = price; feature = parts.feature })
     (cost parts.cost)) (context_id parts.right)) (context_id parts.left)
 
--- what comes of a line: it is blank and passed over, its surface is empty and it is skipped and counted, it is refused, or it is accepted
+-- the outcome of a line: blank and ignored; skipped and counted because its surface is empty;
+-- rejected; or accepted
 pub data Outcome : Type 0 where
   Blank : Outcome
   Skipped : Outcome
@@ -53,11 +54,11 @@ abbrev pub accept_short : Option Row → Outcome
 accept_short None = Refused BadNumber
 accept_short (Some row) = if nat_le (length row.surface) SURFACE_MAX then Accepted row else Refused SurfaceTooLong
 
--- of a lexicon's line with four fields and a rest
+-- the outcome of a lexicon line with four fields and a remainder
 abbrev pub lexicon_outcome : ℕ → Parts → Outcome
 lexicon_outcome line parts = if length parts.surface == 0 then Skipped else accept_short (row_from line parts)
 
--- the outcome of a numbered line, where `judge` says what comes of its parts
+-- the outcome of a numbered line, if `judge` maps its parts to an outcome
 pub data IsOutcome (judge : ℕ → Parts → Outcome) (number : ℕ) (line : List ℕ) : Outcome → Type 0 where
   is_blank : IsTrue (is_blank_line line) → IsOutcome judge number line Blank
   not_text : IsFalse (is_blank_line line) → (IsUtf8 line → ⊥) → IsOutcome judge number line (Refused NotUtf8)
@@ -72,15 +73,16 @@ AreOutcomes judge [] (o ∷ os) = ⊥
 AreOutcomes judge (line ∷ lines) [] = ⊥
 AreOutcomes judge (line ∷ lines) (o ∷ os) = IsOutcome judge line.0 line.1 o × AreOutcomes judge lines os
 
--- the first refused line of a file, counted from a number on, where this many entries were there before; a line above the limit of entries is refused
-abbrev pub first_refused : ℕ → ℕ → ℕ → List Outcome → Option SourceFault
-first_refused file number held [] = None
-first_refused file number held (Blank ∷ more) = first_refused file (number + 1) held more
-first_refused file number held (Skipped ∷ more) = first_refused file (number + 1) held more
-first_refused file number held (Refused kind ∷ more) = Some (record { file = file; line = number; kind = kind })
-first_refused file number held (Accepted row ∷ more) =
+-- the error of the first rejected line of a file, with lines counted from `number` on and `held`
+-- earlier entries; an entry above the limit is rejected
+abbrev pub first_rejected : ℕ → ℕ → ℕ → List Outcome → Option SourceFault
+first_rejected file number held [] = None
+first_rejected file number held (Blank ∷ more) = first_rejected file (number + 1) held more
+first_rejected file number held (Skipped ∷ more) = first_rejected file (number + 1) held more
+first_rejected file number held (Refused kind ∷ more) = Some (record { file = file; line = number; kind = kind })
+first_rejected file number held (Accepted row ∷ more) =
     if nat_lt held ENTRIES_MAX
-    then first_refused file (number + 1) (held + 1) more
+    then first_rejected file (number + 1) (held + 1) more
     else Some (record { file = file; line = number; kind = TooManyEntries })
 
 abbrev pub accepted_row : Outcome → Option Row
@@ -98,7 +100,7 @@ is_skipped Skipped = true
 is_skipped (Refused kind) = false
 is_skipped (Accepted row) = false
 
--- what a file says: its accepted lines, and how many were skipped
+-- the contents of a file: its accepted lines, and how many were skipped
 pub record Reading : Type 0 where
   pub rows : List Row
   pub skipped : ℕ
@@ -107,12 +109,12 @@ abbrev pub reading_unless : Option SourceFault → List Outcome → Result Readi
 reading_unless None outcomes = Ok (record { rows = accepted_rows outcomes; skipped = count_by is_skipped outcomes })
 reading_unless (Some fault) outcomes = Err fault
 
--- a file of this number reads so, where this many entries were there before: it is what its lines say, or its first fault
+-- the reading of file number `file` after `held` earlier entries: its contents, or its first error
 abbrev pub ReadsAs : (ℕ → Parts → Outcome) → ℕ → ℕ → List ℕ → Result Reading SourceFault → Type 0
 ReadsAs judge file held bytes reading =
-    (outcomes : List Outcome) × AreOutcomes judge (numbered_lines bytes) outcomes × (reading ≡ reading_unless (first_refused file 1 held outcomes) outcomes)
+    (outcomes : List Outcome) × AreOutcomes judge (numbered_lines bytes) outcomes × (reading ≡ reading_unless (first_rejected file 1 held outcomes) outcomes)
 
--- a lexicon reads so
+-- the reading of a lexicon
 abbrev pub IsLexicon : ℕ → ℕ → List ℕ → Result Reading SourceFault → Type 0
 IsLexicon file held bytes reading = ReadsAs lexicon_outcome file held bytes reading
 
@@ -121,13 +123,13 @@ abbrev pub HasOneReading : Type 0
 HasOneReading = (file held : ℕ) (bytes : List ℕ) → (reading : Result Reading SourceFault) × IsLexicon file held bytes reading
     × ((other : Result Reading SourceFault) → IsLexicon file held bytes other → other ≡ reading)
 
--- ---- the counts of lines
+-- ---- the number of skipped lines
 
--- how many lines a lexicon skips
+-- the number of lines that a lexicon skips
 abbrev pub SkipsLines : List ℕ → ℕ → Type 0
 SkipsLines bytes skipped =
     (outcomes : List Outcome) × AreOutcomes lexicon_outcome (numbered_lines bytes) outcomes × (skipped ≡ count_by is_skipped outcomes)
 
--- how many lines the lexicons skip together
+-- the number of lines that all lexicons skip together
 abbrev pub SkipLines : List (List ℕ) → ℕ → Type 0
 SkipLines lexicons skipped = (counts : List ℕ) × AllZip SkipsLines lexicons counts × (skipped ≡ sum counts)

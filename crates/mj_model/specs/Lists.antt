@@ -1,4 +1,4 @@
--- Lists: numbers in order, and what stands in a list.
+-- Lists: consecutive numbers, and the members of a list.
 use Rattle.std.specs.Prelude.{◌≡◌, ℕ, zero, suc, ◌⊎◌, List, [], ◌∷◌, ◌++◌}
 
 -- the numbers from 1 to n
@@ -6,16 +6,16 @@ abbrev pub up_to : ℕ → List ℕ
 up_to zero = []
 up_to (suc n) = up_to n ++ suc n ∷ []
 
--- a list grows by something that is so
+-- a list grows at its end by a list with the property `Is`
 abbrev pub GrowsBy : {X : Type 0} → (List X → Type 0) → List X → List X → Type 0
 GrowsBy {X} Is old new = (more : List X) × Is more × (new ≡ old ++ more)
 
--- x stands in a list
-abbrev pub StandsIn : {X : Type 0} → List X → X → Type 0
-StandsIn [] x = ⊥
-StandsIn (y ∷ ys) x = (y ≡ x) ⊎ StandsIn ys x
+-- x is a member of the list
+abbrev pub IsMember : {X : Type 0} → List X → X → Type 0
+IsMember [] x = ⊥
+IsMember (y ∷ ys) x = (y ≡ x) ⊎ IsMember ys x
 
--- nothing stands twice in a list
-abbrev pub AreApart : {X : Type 0} → List X → Type 0
-AreApart [] = Unit {0}
-AreApart (x ∷ xs) = (StandsIn xs x → ⊥) × AreApart xs
+-- no member occurs twice in the list
+abbrev pub AreDistinct : {X : Type 0} → List X → Type 0
+AreDistinct [] = Unit {0}
+AreDistinct (x ∷ xs) = (IsMember xs x → ⊥) × AreDistinct xs

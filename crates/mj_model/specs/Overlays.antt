@@ -1,4 +1,4 @@
--- The first fault of a system dictionary and the user dictionaries that are laid over it.
+-- The first error of a system dictionary combined with user dictionaries.
 use Rattle.std.specs.Prelude.{ℕ, suc, ◌==◌, ◌&&◌, if◌then◌else◌, Bool, true, false, not, List, [], ◌∷◌, Option, Some, None}
 use Rattle.mj_model.specs.declared.overlay_fault.OverlayFault.{OverlayFault}
 use Rattle.mj_model.specs.declared.overlay_fault.OverlayFault.TheVariants.{NotSystem, NotUser, OtherSizes}
@@ -12,7 +12,8 @@ is_user User = true
 abbrev pub are_same_sizes : MatrixSizes → MatrixSizes → Bool
 are_same_sizes a b = a.right == b.right && a.left == b.left
 
--- the first fault of the users from number i on, over a system of these sizes; of each its kind is looked at before its sizes
+-- the first error of the user dictionaries from number i on, over a system dictionary of these
+-- sizes; the kind of each is checked before its sizes
 abbrev pub first_user_fault : MatrixSizes → ℕ → List Tables → Option OverlayFault
 first_user_fault sizes i [] = None
 first_user_fault sizes i (user ∷ users) =
@@ -20,6 +21,6 @@ first_user_fault sizes i (user ∷ users) =
     else if not (are_same_sizes user.sizes sizes) then Some (OtherSizes i)
     else first_user_fault sizes (suc i) users
 
--- the first fault of an overlay; users are counted from 0
+-- the first error of an overlay; user dictionaries are counted from 0
 abbrev pub overlay_fault : Tables → List Tables → Option OverlayFault
 overlay_fault system users = if is_user system.kind then Some NotSystem else first_user_fault system.sizes 0 users

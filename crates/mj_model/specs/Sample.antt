@@ -1,8 +1,8 @@
--- The sample's sources, line by line.
+-- The sources of the sample dictionary, line by line.
 use Rattle.std.specs.Prelude.{ℕ, List, [], ◌∷◌, ◌++◌, codes, encode_utf8_all, flat_map}
 use Rattle.mj_model.specs.Bytes.{line_feed}
 
--- lines of characters as the bytes of a file, each with its LF
+-- the bytes of a file with these lines of characters, each ended by LF
 abbrev pub file_of : List (List ℕ) → List ℕ
 file_of lines = flat_map (λ line. encode_utf8_all line ++ line_feed ∷ []) lines
 

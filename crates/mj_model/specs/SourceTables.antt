@@ -1,4 +1,5 @@
--- What the four kinds of source say together. They are looked at in this order: matrix.def; char.def; unk.def; then each lexicon as given.
+-- The tables that the sources of a system dictionary define. The sources are checked in this order:
+-- matrix.def, char.def, unk.def, then the lexicons in the given order.
 use Rattle.std.specs.Prelude.{◌≡◌, ℕ, ◌≤◌, List, [], length, map, Result, Ok, Err, ◌⊎◌}
 use Rattle.mj_model.specs.declared.source_fault.TheConstants.{FIRST_LEXICON_FILE}
 use Rattle.mj_model.specs.declared.source_fault.SourceFault.{SourceFault}
@@ -13,23 +14,23 @@ use Rattle.mj_model.specs.UnkDef.{IsUnkWithin, unknown_tokens}
 abbrev pub lexicon_bytes : Sources → List (List ℕ)
 lexicon_bytes s = map (λ lexicon. lexicon.now) s.lexicons.now
 
--- `matrix.def` says this
+-- the contents of `matrix.def`
 abbrev pub IsConnection : Sources → Connection → Type 0
 IsConnection s connection = connection_of s.matrix.now ≡ Ok connection
 
--- `char.def` says this
+-- the contents of `char.def`
 abbrev pub AreChars : Sources → CharSource → Type 0
 AreChars s chars = char_source s.chars.now ≡ Ok chars
 
--- of each category these are the rows of `unk.def`, and their ids lie within the sizes
+-- the rows of `unk.def` for each category, with ids within the sizes
 abbrev pub AreUnknown : Sources → Connection → CharSource → List (List Row) → Type 0
 AreUnknown s connection chars unknown = IsUnkWithin connection.sizes chars.categories s.unk.now (Ok unknown)
 
--- the lexicons read so; the first of them is file 3
+-- the result of reading the lexicons, of which the first is file 3
 abbrev pub AreRows : Sources → Connection → Result (List Row) SourceFault → Type 0
 AreRows s connection read = AreLexicons connection.sizes FIRST_LEXICON_FILE [] (lexicon_bytes s) read
 
--- a system dictionary's tables
+-- the tables of a system dictionary
 abbrev pub system_tables : Connection → CharSource → List (List Row) → List Lexeme → Tables
 system_tables connection chars unknown lexicon = record {
   kind = System;
@@ -41,8 +42,8 @@ system_tables connection chars unknown lexicon = record {
   lexicon = lexicon;
 }
 
--- two tables say the same; what they give to numbers above all code points doesn't matter
-pub record SayTheSame (t u : Tables) : Type 0 where
+-- two tables have the same meaning; their values for numbers above all code points do not matter
+pub record HaveSameMeaning (t u : Tables) : Type 0 where
   pub kind : t.kind ≡ u.kind
   pub sizes : t.sizes ≡ u.sizes
   pub connection : t.connection ≡ u.connection
@@ -51,7 +52,7 @@ pub record SayTheSame (t u : Tables) : Type 0 where
   pub unknown : t.unknown ≡ u.unknown
   pub lexicon : t.lexicon ≡ u.lexicon
 
--- the sources are accepted, and say what the tables say
+-- the sources are accepted and define these tables
 pub record HaveTables (s : Sources) (t : Tables) : Type 0 where
   pub connection : Connection
   pub chars : CharSource
@@ -63,11 +64,11 @@ pub record HaveTables (s : Sources) (t : Tables) : Type 0 where
   pub are_unknown : AreUnknown s connection chars unknown
   pub are_rows : AreRows s connection (Ok rows)
   pub is_lexicon : IsLexiconOf rows lexicon
-  pub tables : SayTheSame t (system_tables connection chars unknown lexicon)
+  pub tables : HaveSameMeaning t (system_tables connection chars unknown lexicon)
 
--- sources say one thing: all tables that they say, say the same
-abbrev pub SayOneThing : Type 0
-SayOneThing = (s : Sources) (t u : Tables) → HaveTables s t → HaveTables s u → SayTheSame t u
+-- sources have one meaning: all tables that they define have the same meaning
+abbrev pub HaveOneMeaning : Type 0
+HaveOneMeaning = (s : Sources) (t u : Tables) → HaveTables s t → HaveTables s u → HaveSameMeaning t u
 
 abbrev pub IsMatrixFault : Sources → SourceFault → Type 0
 IsMatrixFault s fault = connection_of s.matrix.now ≡ Err fault
@@ -85,6 +86,6 @@ IsRowsFault s fault =
     (connection : Connection) × (chars : CharSource) × (unknown : List (List Row)) × IsConnection s connection × AreChars s chars
     × AreUnknown s connection chars unknown × AreRows s connection (Err fault)
 
--- the first fault of the sources: each kind is looked at where those before it are accepted
+-- the first error of the sources; each kind of source is checked if those before it are accepted
 abbrev pub IsSourcesFault : Sources → SourceFault → Type 0
 IsSourcesFault s fault = IsMatrixFault s fault ⊎ IsCharFault s fault ⊎ IsUnkFault s fault ⊎ IsRowsFault s fault

@@ -1,4 +1,5 @@
--- The lines of a text that is read piece by piece: those that were read to their LF, and what came behind the last one.
+-- The lines of a text that is read piece by piece: the complete lines, and the unfinished one after
+-- the last LF.
 use Rattle.std.specs.Prelude.{ℕ, List, [], ◌∷◌}
 use Rattle.std.specs.List.{slice_split}
 use Rattle.mj_model.specs.Bytes.{is_line_feed}
@@ -14,9 +15,9 @@ last_piece (piece ∷ []) = piece
 last_piece (piece ∷ next ∷ more) = last_piece (next ∷ more)
 
 -- the lines that end at an LF
-abbrev pub whole_lines : List ℕ → List (List ℕ)
-whole_lines bytes = all_but_last (slice_split is_line_feed bytes)
+abbrev pub complete_lines : List ℕ → List (List ℕ)
+complete_lines bytes = all_but_last (slice_split is_line_feed bytes)
 
--- what stands behind the last LF
-abbrev pub open_line : List ℕ → List ℕ
-open_line bytes = last_piece (slice_split is_line_feed bytes)
+-- the bytes after the last LF
+abbrev pub unfinished_line : List ℕ → List ℕ
+unfinished_line bytes = last_piece (slice_split is_line_feed bytes)

@@ -1,12 +1,13 @@
-//! Categories of characters.
+//! Character categories.
 
 ghost use Rattle.std.specs.Prelude.{◌≡◌};
 ghost use Rattle.mj_model.specs.Categories.{shares};
 
-/// When unknown words of a category are made. (MeCab, `char.def`)
+/// The rules for unknown words of a character category. (MeCab, `char.def`)
 ///
-/// `invoke`: also beside words of the lexicon. `group`: a whole run of the category is one word.
-/// `length`: words of 1 to this many characters, 0 to 15.
+/// `invoke`: unknown words are added even if the lexicon has words at the position. `group`: a
+/// whole run of characters of the category is one word. `length`: words of 1 to `length` characters
+/// are added; 0 to 15.
 #[derive(Clone, Copy, Debug, PartialEq, Eq, Drop)]
 pub struct Category {
     pub invoke: bool,
@@ -14,7 +15,8 @@ pub struct Category {
     pub length: u8,
 }
 
-/// The categories of a character: bit i of `bits` stands for category i, and `head` is the first of them.
+/// The categories of a character. Bit i of `bits` is set if the character has category i, and
+/// `head` is the category listed first.
 #[derive(Clone, Copy, Debug, PartialEq, Eq, Drop)]
 pub struct CharInfo {
     pub bits: u32,
@@ -22,14 +24,14 @@ pub struct CharInfo {
 }
 
 impl CharInfo {
-    /// The category whose unknown entries are used. (MeCab, `char.def`)
+    /// Returns the category whose unknown entries are used. (MeCab, `char.def`)
     pub fn first(self) -> u8
         ensures { result ≡ self.head }
     {
         self.head
     }
 
-    /// Whether the two have a category in common.
+    /// Returns whether the two have a category in common.
     pub fn shares(self, other: CharInfo) -> bool
         ensures { result ≡ shares self other }
     {

@@ -7,7 +7,8 @@ use crate::text_out::TextOut;
 use std::io;
 use std::io::{Read, Write};
 
-/// Any reader or writer, with counts of the calls on it. Each call is handed on as it is.
+/// A reader or writer that counts the calls of `TextIn` and `TextOut`. Every call is forwarded to
+/// it unchanged; those of `Read` and `Write` are not counted.
 #[derive(Debug, Drop)]
 pub struct Counted<T> {
     inner: T,
@@ -21,7 +22,7 @@ pub struct Counted<T> {
 impl<T> Counted<T> {
     ghost use Rattle.mj_model.specs.Counted.{counted_inner, counted_reads, counted_ends, counted_failures, counted_flushes, counted_unflushed};
 
-    /// All counts are 0, and nothing waits for a flush. Takes no memory.
+    /// Wraps `inner` with all counts 0 and no flush due. Does not allocate.
     pub fn new(inner: T) -> Self
         ensures inner { counted_inner result ≡ inner }
         ensures reads { counted_reads result ≡ 0 }
@@ -40,7 +41,7 @@ impl<T> Counted<T> {
         }
     }
 
-    /// What is read or written by it.
+    /// Returns the wrapped reader or writer.
     pub fn get_ref(&self) -> &T
         ensures { result.now ≡ counted_inner self.now }
     {
@@ -57,7 +58,7 @@ impl<T: Read> Read for Counted<T> {
 }
 
 impl<T: Read> TextIn for Counted<T> {
-    ghost told = { λ c. record {
+    ghost state = { λ c. record {
       left = T.remaining c.inner;
       reads = c.reads;
       ends = c.ends;
@@ -88,7 +89,7 @@ impl<T: Read> TextIn for Counted<T> {
         self.failures
     }
 
-    ghost tells_left = { λ c. refl };
+    ghost left_is_remaining = { λ c. refl };
 }
 
 impl<T: Write> Write for Counted<T> {
@@ -104,7 +105,7 @@ impl<T: Write> Write for Counted<T> {
 }
 
 impl<T: Write> TextOut for Counted<T> {
-    ghost told = { λ c. record {
+    ghost state = { λ c. record {
       held = T.contents c.inner;
       failures = c.failures;
       flushes = c.flushes;
@@ -144,5 +145,5 @@ impl<T: Write> TextOut for Counted<T> {
         self.unflushed
     }
 
-    ghost tells_held = { λ c. refl };
+    ghost held_is_contents = { λ c. refl };
 }

@@ -6,9 +6,9 @@ ghost use Rattle.std.proofs.Props.{props};
 use std::alloc::Global;
 use std::borrow::CowStr;
 
-/// What a lexicon line says of a word besides its surface.
+/// The fields of a lexicon line after its surface.
 ///
-/// `left` is the context id seen from its left, `right` the one seen from its right, and of `cost` less is
+/// `left` and `right` are the left id and the right id. `cost` is the word cost; lower costs are
 /// preferred. (MeCab, dic-detail)
 #[derive(Debug, Drop)]
 pub struct Entry<'a> {
@@ -18,11 +18,12 @@ pub struct Entry<'a> {
     pub feature: &'a str,
 }
 
-/// An accepted line of a lexicon, whose bytes it borrows. `line` is its number in its file, counted from 1.
+/// An accepted line of a lexicon, which borrows the bytes of the line. `line` is its number in its
+/// file, counted from 1.
 #[derive(Debug, Drop)]
 pub struct Record<'a> {
     pub line: u64,
-    /// A copy only where the line has it between quotes.
+    /// Owned only if the line quotes the surface, and borrowed otherwise.
     pub surface: CowStr<'a, Global>,
     pub entry: Entry<'a>,
     ghost is_text: { IsUtf8 (cow_str_bytes surface) } by { Prim.hlevel props },

@@ -1,10 +1,10 @@
-//! What is wrong with an output format.
+//! Errors of an output format.
 
 ghost use Rattle.std.specs.Prelude.{◌≡◌};
 ghost use Rattle.mj_model.specs.FaultWords.{format_words};
 ghost use Rattle.mj_model.specs.declared.format_fault.FormatFault.TheVariants.{Memory};
 
-use crate::named_fault::{NamedFault, write_numbered, write_words};
+use crate::named_fault::{NamedFault, write_code_and_name, write_numbered};
 use std::alloc::{AllocError, AllocFailed};
 use std::fmt::{self, Display, Formatter, Write};
 use thiserror::Error;
@@ -12,36 +12,38 @@ use thiserror::Error;
 /// One of the four texts of an output format.
 #[derive(Clone, Copy, Debug, PartialEq, Eq, Drop)]
 pub enum FormatPart {
-    /// For each known word.
+    /// The text printed for each known word.
     Node,
-    /// For each unknown word.
+    /// The text printed for each unknown word.
     Unk,
-    /// Before the first word.
+    /// The text printed before the first word.
     Bos,
-    /// Behind the last word.
+    /// The text printed after the last word.
     Eos,
 }
 
-/// Why a text of a format is refused.
+/// Why a text of a format is rejected.
 #[derive(Clone, Copy, Debug, PartialEq, Eq, Drop)]
 pub enum FormatKind {
-    /// A backslash before no character that it escapes.
+    /// The character after a backslash has no escape.
     BadEscape,
-    /// A `%` before no item of this part.
+    /// No item of this part follows a `%`.
     BadItem,
-    /// `%f` without an index of one to five digits, at most 65,535, between brackets.
+    /// `%f` without an index in brackets of one to five digits, at most 65,535.
     BadIndex,
 }
 
-/// Why there is no format. `at` is the byte of the `%` or backslash in its part, counted from 0.
+/// Why a format is rejected.
 #[derive(Clone, Copy, Debug, PartialEq, Eq, Drop, Error)]
+/// A text of the format is invalid. `at` is the byte offset in `part` of the `%` or of the
+/// backslash, counted from 0.
 pub enum FormatFault {
     Bad {
         part: FormatPart,
         at: usize,
         kind: FormatKind,
     },
-    /// Memory was refused.
+    /// An allocation failed.
     Memory,
 }
 
@@ -71,7 +73,7 @@ impl Display for FormatFault {
     fn fmt<W: Write>(&self, f: &mut Formatter<W>) -> fmt::Result {
         match *self {
             FormatFault::Bad { at, .. } => write_numbered(*self, at, f),
-            FormatFault::Memory => write_words(*self, f),
+            FormatFault::Memory => write_code_and_name(*self, f),
         }
     }
 }

@@ -1,49 +1,51 @@
 //! The items of an output format.
 
-/// What an item of a format shows of a word and its line. (MeCab, format.html)
+/// An item of a format, which prints a property of a word or of its line. (MeCab, format.html)
 ///
-/// A field that begins with `*` shows nothing, as MeCab has it; that a missing one shows nothing too, where MeCab's run ends, is this
-/// project's own choice. Offsets and lengths are in bytes.
+/// Offsets and lengths are in bytes. A field of the feature that starts with `*` prints nothing, as
+/// in MeCab. A missing field prints nothing either, which is this project's own choice, since
+/// MeCab's run ends there.
 #[derive(Clone, Copy, Debug, PartialEq, Eq, Drop)]
 pub enum FormatItem {
-    /// `%m`
+    /// `%m`: the surface
     Surface,
-    /// `%M`
+    /// `%M`: the surface with the blanks before it
     SurfaceWithBlanks,
-    /// `%pS`
+    /// `%pS`: the blanks before the surface
     Blanks,
-    /// `%H`
+    /// `%H`: the feature
     Feature,
-    /// `%f[n]`, of the feature, counted from 0
+    /// `%f[n]`: field n of the feature, counted from 0
     Field(u16),
-    /// `%c`
+    /// `%c`: the word cost
     WordCost,
-    /// `%s`: 0 of a known word, 1 of an unknown one
+    /// `%s`: 0 for a known word, 1 for an unknown one
     IsUnknown,
     /// `%S`: the line
     Sentence,
-    /// `%L`
+    /// `%L`: the length of the line
     SentenceLength,
-    /// `%phl`
+    /// `%phl`: the left id
     LeftId,
-    /// `%phr`
+    /// `%phr`: the right id
     RightId,
-    /// `%pC`: with the word before
+    /// `%pC`: the connection cost with the preceding word
     ConnectionCost,
-    /// `%pn`: the connection cost and the word cost
+    /// `%pn`: the sum of the connection cost and the word cost
     CostHere,
-    /// `%pc`: the sum up to and with this word; at the end of the sentence that of the path
+    /// `%pc`: the cost of the path up to and including this word; at the end of the sentence, of
+    /// the whole path
     CostSoFar,
-    /// `%pl`
+    /// `%pl`: the length of the surface
     SurfaceLength,
-    /// `%pL`
+    /// `%pL`: the length of the surface with the blanks before it
     LengthWithBlanks,
-    /// `%ps`
+    /// `%ps`: the start of the surface
     Start,
-    /// `%pe`
+    /// `%pe`: the end of the surface
     End,
     /// `%t`: the number of the first category of the surface's first character
     CharacterCategory,
-    /// `%%`
+    /// `%%`: a percent sign
     Percent,
 }

@@ -1,24 +1,25 @@
-//! What is wrong with the bytes of an image.
+//! Errors of the bytes of an image.
 
 ghost use Rattle.std.specs.Prelude.{◌≡◌};
 ghost use Rattle.mj_model.specs.ImageFaultWords.{image_words};
 ghost use Rattle.mj_model.specs.declared.image_fault.ImageFault.TheVariants.{Memory};
 
-use crate::named_fault::{NamedFault, write_numbered, write_words};
+use crate::named_fault::{NamedFault, write_code_and_name, write_numbered};
 use std::alloc::{AllocError, AllocFailed};
 use std::fmt::{self, Display, Formatter, Write};
 use thiserror::Error;
 
-/// Why an image is refused. Sections are counted from 1; keys and tokens from 0, and the least bad one is told.
+/// Why an image is rejected. Sections are counted from 1, keys and tokens from 0. The number in an
+/// error is the lowest invalid one.
 #[derive(Clone, Copy, Debug, PartialEq, Eq, Drop, Error)]
 pub enum ImageFault {
-    /// Fewer bytes than the header, or than it demands.
+    /// The image is shorter than the header, or shorter than the header demands.
     Truncated,
-    /// The first 8 bytes are not those of an image.
+    /// The first 8 bytes are not the magic number of an image.
     BadMagic,
-    /// A layout that is not read here.
+    /// This layout is not supported.
     BadLayout(u32),
-    /// This section breaks its rule. Section 0 is the header, 9 what stands behind the last section.
+    /// This section is invalid. Section 0 is the header, and 9 is what follows the last section.
     BadSection(u8),
     /// This group has no key that is UTF-8 of 1 to `SURFACE_MAX` bytes.
     BadKey(u32),
@@ -26,9 +27,9 @@ pub enum ImageFault {
     BadToken(u32),
     /// The feature of this token lies outside the features, or is not UTF-8.
     BadText(u32),
-    /// The digest at the end is not that of the bytes before it.
+    /// The SHA-256 at the end does not match the bytes before it.
     Digest,
-    /// Memory was refused.
+    /// An allocation failed.
     Memory,
 }
 
@@ -58,16 +59,8 @@ impl Display for ImageFault {
             | ImageFault::BadKey(number)
             | ImageFault::BadToken(number)
             | ImageFault::BadText(number) => write_numbered(*self, number, f),
-            _ => write_words(*self, f),
+            _ => write_code_and_name(*self, f),
         }
-    }
-}
-
-impl From<AllocError> for ImageFault {
-    ghost from_gives = { λ _ fault. fault ≡ Memory };
-
-    fn from(_refused: AllocError) -> ImageFault {
-        ImageFault::Memory
     }
 }
 
@@ -75,6 +68,14 @@ impl<T: Drop> From<AllocFailed<T>> for ImageFault {
     ghost from_gives = { λ _ fault. fault ≡ Memory };
 
     fn from(_refused: AllocFailed<T>) -> ImageFault {
+        ImageFault::Memory
+    }
+}
+
+impl From<AllocError> for ImageFault {
+    ghost from_gives = { λ _ fault. fault ≡ Memory };
+
+    fn from(_refused: AllocError) -> ImageFault {
         ImageFault::Memory
     }
 }

@@ -1,4 +1,4 @@
-//! Laws of the definitions: facts that hold of every source and every image.
+//! Laws of the definitions: facts about every source and every image.
 
 ghost use Rattle.std.specs.Prelude.{◌≡◌, ◌^◌, ◌-◌};
 ghost use Rattle.mj_model.specs.Fields.{HasOneFirstField};
@@ -7,7 +7,7 @@ ghost use Rattle.mj_model.specs.UnkDef.{HasOneUnkDef};
 ghost use Rattle.mj_model.specs.declared.limits.TheConstants as limits;
 ghost use Rattle.mj_model.specs.declared.source_fault.TheConstants as files;
 
-/// Each line has exactly one first field, and one rest after it.
+/// Each line has exactly one first field, followed by exactly one remainder.
 pub fn field_split_is_unique()
     ensures { HasOneFirstField }
 {}
@@ -17,12 +17,12 @@ pub fn one_reading()
     ensures { HasOneReading }
 {}
 
-/// Each `unk.def` has exactly one reading, whatever the sizes of the matrix and the categories.
+/// Each `unk.def` has exactly one reading for given sizes of the matrix and given categories.
 pub fn one_unk_reading()
     ensures { HasOneUnkDef }
 {}
 
-/// The limits, as numbers: a definition that names one means this number.
+/// The values of the limits that definitions name.
 pub fn limits()
     ensures line { limits.SENTENCE_MAX ≡ 1048576 }
     ensures surface { limits.SURFACE_MAX ≡ 65535 }
@@ -38,7 +38,7 @@ pub fn limits()
     ensures grouping { limits.GROUPING_MAX ≡ 1000 }
 {}
 
-/// The numbers of the files in faults of sources, as numbers.
+/// The values of the file numbers in errors of sources.
 pub fn file_numbers()
     ensures matrix { files.MATRIX_FILE ≡ 0 }
     ensures chars { files.CHAR_FILE ≡ 1 }

@@ -1,7 +1,23 @@
-//! The types that the crates share, and the definitions that say what a text's words are.
+//! The types that the crates share, and the definitions of a text's words and of its best path.
+//!
+//! The types are words, entries, character categories, sources, limits and errors. Use this crate
+//! to exchange these values with the other crates, and to look up the definitions that their
+//! contracts name. The module `cell_walk` reads the cells of a double array, and `paths` holds the
+//! types of words at a position and of paths.
+//!
+//! Example:
+//!
+//! ```text
+//! let fault = SourceKind::NotUtf8.at(0, 1);
+//! fault.code()   // "S1"
+//! fault.name()   // "NotUtf8"
+//! // It is printed as "file 0, line 1: S1 NotUtf8".
+//! ```
+//! The test `places_of_sources` of `crates/source_tests` runs it.
 #![tactic(auto)]
 
 mod category;
+pub mod cell_walk;
 mod counted;
 mod entry;
 mod format_fault;
@@ -12,6 +28,7 @@ mod limits;
 mod matrix_sizes;
 mod named_fault;
 mod overlay_fault;
+pub mod paths;
 mod run_fault;
 mod sample_sources;
 mod source_fault;
@@ -32,7 +49,7 @@ pub use limits::{
     SURFACE_MAX,
 };
 pub use matrix_sizes::MatrixSizes;
-pub use named_fault::{NamedFault, write_numbered, write_words};
+pub use named_fault::{NamedFault, write_code_and_name, write_numbered};
 pub use overlay_fault::OverlayFault;
 pub use run_fault::RunFault;
 pub use sample_sources::sample;

@@ -1,12 +1,12 @@
-//! How many context ids there are.
+//! The sizes of a connection table.
 
 ghost use Rattle.std.specs.Prelude.{◌≡◌, ◌↔◌, IsTrue};
 ghost use Rattle.mj_model.specs.Connection.{AreMatrixSizes, is_pair};
 
 use crate::limits::{MATRIX_CELLS_MAX, MATRIX_SIZE_MAX};
 
-/// How many right ids of the word before, and left ids of the word after it, a connection table has: 1 to 65,535 of each. (MeCab,
-/// `matrix.def`)
+/// The sizes of a connection table: the number of right ids of the preceding word, and the number
+/// of left ids of the following word. (MeCab, `matrix.def`)
 #[derive(Clone, Copy, Debug, PartialEq, Eq, Drop)]
 pub struct MatrixSizes {
     pub right: u32,
@@ -14,7 +14,8 @@ pub struct MatrixSizes {
 }
 
 impl MatrixSizes {
-    /// Whether a connection table may have these sizes: 1 to `MATRIX_SIZE_MAX` each, and at most `MATRIX_CELLS_MAX` pairs of ids.
+    /// Returns whether a connection table may have these sizes: 1 to `MATRIX_SIZE_MAX` ids each,
+    /// and at most `MATRIX_CELLS_MAX` pairs of ids.
     pub fn are_allowed(self) -> bool
         ensures { IsTrue result ↔ AreMatrixSizes self }
     {
@@ -23,7 +24,7 @@ impl MatrixSizes {
             && u64::from(self.right) * u64::from(self.left) <= MATRIX_CELLS_MAX
     }
 
-    /// Whether both ids lie within the sizes.
+    /// Returns whether `right` and `left` both lie within the sizes.
     pub fn contains(self, right: u16, left: u16) -> bool
         ensures { result ≡ is_pair self right left }
     {

@@ -1,30 +1,33 @@
-//! What ends a run over a text.
+//! Errors of a run over a text.
 
 ghost use Rattle.mj_model.specs.FaultWords.{run_words};
 
-use crate::named_fault::{NamedFault, write_numbered, write_words};
+use crate::named_fault::{NamedFault, write_code_and_name, write_numbered};
 use crate::source_fault::SourceFault;
 use std::fmt::{self, Display, Formatter, Write};
 use thiserror::Error;
 
-/// Why a run over a text ended before its end. Lines of text are counted from 1.
+/// Why a run over a text failed. Lines of the text are numbered from 1.
 #[derive(Clone, Copy, Debug, PartialEq, Eq, Drop, Error)]
 pub enum RunFault {
-    /// The sources are refused, and nothing was read.
+    /// The sources of the system dictionary are rejected. Nothing was read.
     Source(SourceFault),
-    /// The lexicons of this user dictionary, counted from 0, are refused, and nothing was read.
+    /// The lexicons of this user dictionary, counted from 0, are rejected. Nothing was read.
     UserSource(usize, SourceFault),
-    /// A read failed; the number is that of the lines read whole and one.
+    /// A read failed. The number is one more than the number of lines read completely.
     Read(u64),
-    /// A write or a flush failed, or a write took no byte; the number is that of the bytes taken before.
+    /// A write or a flush failed, or a write accepted no byte. The number is that of the bytes
+    /// accepted before.
     Write(u128),
     /// This line is not UTF-8.
     NotUtf8(u64),
     /// This line has more than `SENTENCE_MAX` bytes.
     TooLong(u64),
-    /// `READS_MAX` reads came to no end; the number is that of the lines read whole and one.
+    /// `READS_MAX` reads did not reach the end. The number is one more than the number of lines
+    /// read completely.
     InputTooLong(u64),
-    /// Memory was refused; the number is that of the lines written whole and one, and 0 before the first read.
+    /// An allocation failed. The number is one more than the number of lines written completely,
+    /// and 0 before the first read.
     Memory(u64),
 }
 
@@ -53,10 +56,10 @@ impl Display for RunFault {
             | RunFault::TooLong(line)
             | RunFault::InputTooLong(line) => {
                 write!(f, "line {line}: ")?;
-                write_words(*self, f)
+                write_code_and_name(*self, f)
             }
             RunFault::Write(taken) => write_numbered(*self, taken, f),
-            RunFault::Memory(_) => write_words(*self, f),
+            RunFault::Memory(_) => write_code_and_name(*self, f),
         }
     }
 }

@@ -1,4 +1,4 @@
-//! Small sources to try the programs on.
+//! A small sample dictionary, to try the programs on.
 
 ghost use Rattle.std.specs.Prelude.{◌≡◌, ◌∷◌, [], map};
 ghost use Rattle.mj_model.specs.Sample.{matrix_text, chars_text, unk_text, lexicon_text};
@@ -38,7 +38,8 @@ const LEXICON: &[u8] = b"\
 \xe3\x82\x82\xe3\x82\x82,1,1,30,\xe5\x90\x8d\xe8\xa9\x9e,\xe3\x82\x82\xe3\x82\x82
 ";
 
-/// The sources of the sample line すもももも: three words of the plum tree. (This project's own choice)
+/// Returns the sources of a sample dictionary whose three words segment the line すもももも. (This
+/// project's own choice)
 pub fn sample() -> Sources<'static>
     ensures matrix { result.matrix.now ≡ matrix_text }
     ensures chars { result.chars.now ≡ chars_text }

@@ -1,62 +1,64 @@
-//! What is wrong with a dictionary's sources, and where.
+//! Errors of a dictionary's sources, and where they are.
 
 ghost use Rattle.std.specs.Prelude.{◌≡◌};
 ghost use Rattle.mj_model.specs.FaultWords.{source_words};
 ghost use Rattle.mj_model.specs.declared.source_fault.SourceKind.TheVariants.{Memory};
 
-use crate::named_fault::{NamedFault, write_numbered, write_words};
+use crate::named_fault::{NamedFault, write_code_and_name, write_numbered};
 use std::alloc::{AllocError, AllocFailed};
 use std::fmt::{self, Display, Formatter, Write};
 use thiserror::Error;
 
-/// The number of `matrix.def` among the files of sources.
+/// The file number of `matrix.def`.
 pub const MATRIX_FILE: u32 = 0;
 
-/// The number of `char.def`.
+/// The file number of `char.def`.
 pub const CHAR_FILE: u32 = 1;
 
-/// The number of `unk.def`.
+/// The file number of `unk.def`.
 pub const UNK_FILE: u32 = 2;
 
-/// The number of the first lexicon; those after it count on.
+/// The file number of the first lexicon. The lexicons after it are numbered consecutively.
 pub const FIRST_LEXICON_FILE: u32 = 3;
 
-/// The greatest number of a lexicon; every lexicon after the one with this number has it too.
+/// The greatest file number of a lexicon. All lexicons after the one with this number share it.
 pub const LAST_LEXICON_FILE: u32 = u32::MAX - 1;
 
-/// The number of no file: that of a fault of the whole compilation.
+/// The file number of an error that belongs to no file, but to the whole compilation.
 pub const NO_FILE: u32 = u32::MAX;
 
-/// Why a source is refused. A code names the file's kind by its letter.
+/// Why a source is rejected. The letter of each code names the kind of file, such as `M` for
+/// `matrix.def`.
 #[derive(Clone, Copy, Debug, PartialEq, Eq, Drop, Error)]
 pub enum SourceKind {
     /// A line of a lexicon or of `unk.def` is not UTF-8.
     NotUtf8,
-    /// No comma ends the fourth field.
+    /// A line has fewer than five fields: no comma ends the fourth.
     TooFewFields,
-    /// An id is no number from 0 to 65,535, or the cost none from -32,768 to 32,767.
+    /// An id is not a number from 0 to 65,535, or the cost is not a number from -32,768 to 32,767.
     BadNumber,
-    /// A surface of more than `SURFACE_MAX` bytes.
+    /// A surface has more than `SURFACE_MAX` bytes.
     SurfaceTooLong,
-    /// More than `ENTRIES_MAX` entries.
+    /// There are more than `ENTRIES_MAX` entries.
     TooManyEntries,
-    /// The first line of `matrix.def` is not two numbers from 1 to 65,535; line 0 where no line is there.
+    /// The first line of `matrix.def` that is not blank is not two numbers from 1 to 65,535. If
+    /// there is no such line, the error is at line 0.
     BadHeader,
-    /// A further line of `matrix.def` is not two ids and a cost.
+    /// A later line of `matrix.def` is not two ids and a cost.
     BadRow,
-    /// A row's ids lie outside the sizes.
+    /// The ids of a row lie outside the sizes.
     PairOutside,
     /// The product of the sizes is above `MATRIX_CELLS_MAX`.
     TooLarge,
-    /// Too few words, a bad number or a bad name.
+    /// A line of `char.def` has too few words, an invalid number or an invalid name.
     BadLine,
-    /// Code points that are no range from U+0000 to U+10FFFF.
+    /// The code points of a mapping are not a range within U+0000 to U+10FFFF.
     BadRange,
-    /// A category that is defined already.
+    /// A line of `char.def` defines a category that is already defined.
     Twice,
     /// A mapping names a category that `char.def` does not define.
     UndefinedCategory,
-    /// More than `CATEGORIES_MAX` categories.
+    /// There are more than `CATEGORIES_MAX` categories.
     TooManyCategories,
     /// `char.def` does not define DEFAULT.
     NoDefault,
@@ -64,20 +66,20 @@ pub enum SourceKind {
     NoSpace,
     /// A line of `unk.def` names no category of `char.def`.
     NoSuchCategory,
-    /// This category, the least such, has no line in `unk.def`.
+    /// This category has no line in `unk.def`. It is the lowest one without a line.
     MissingCategory(u8),
     /// An id of a lexicon or of `unk.def` lies outside the connection table.
     IdOutside,
-    /// The key index of an image has no room left.
+    /// The key index of an image is full.
     ArrayFull,
-    /// The features of an image have 2^32 bytes or more.
+    /// The features of an image take 2^32 bytes or more.
     FeaturesTooLarge,
-    /// Memory was refused.
+    /// An allocation failed.
     Memory,
 }
 
 impl SourceKind {
-    /// As a fault of a line of a file.
+    /// Returns the error of this kind at line `line` of file `file`.
     pub fn at(self, file: u32, line: u64) -> SourceFault
         ensures { result ≡ record { file = file; line = line; kind = self } }
     {
@@ -124,16 +126,8 @@ impl Display for SourceKind {
     fn fmt<W: Write>(&self, f: &mut Formatter<W>) -> fmt::Result {
         match *self {
             SourceKind::MissingCategory(category) => write_numbered(*self, category, f),
-            _ => write_words(*self, f),
+            _ => write_code_and_name(*self, f),
         }
-    }
-}
-
-impl From<AllocError> for SourceKind {
-    ghost from_gives = { λ _ kind. kind ≡ Memory };
-
-    fn from(_refused: AllocError) -> SourceKind {
-        SourceKind::Memory
     }
 }
 
@@ -145,13 +139,23 @@ impl<T: Drop> From<AllocFailed<T>> for SourceKind {
     }
 }
 
-/// Where a source is at fault, and why. With kind `Memory`, `file` and `line` carry no meaning.
+impl From<AllocError> for SourceKind {
+    ghost from_gives = { λ _ kind. kind ≡ Memory };
+
+    fn from(_refused: AllocError) -> SourceKind {
+        SourceKind::Memory
+    }
+}
+
+/// An error in a source, with its file and line. If the kind is `Memory`, `file` and `line` have no
+/// meaning.
 #[derive(Clone, Copy, Debug, PartialEq, Eq, Drop, Error)]
 #[error("file {file}, line {line}: {kind}")]
 pub struct SourceFault {
-    /// 0 `matrix.def`, 1 `char.def`, 2 `unk.def`, from 3 on the lexicons in the order given.
+    /// 0 is `matrix.def`, 1 `char.def`, 2 `unk.def`. The lexicons follow from 3 on, in the given
+    /// order.
     pub file: u32,
-    /// Counted from 1. Line 0 is the file as a whole.
+    /// Counted from 1. Line 0 means the file as a whole.
     pub line: u64,
     pub kind: SourceKind,
 }

@@ -1,6 +1,7 @@
 //! The sources of a dictionary.
 
-/// The bytes of MeCab's source files. The lexicons stand in the order in which they are read.
+/// The bytes of MeCab's source files: `matrix.def`, `char.def`, `unk.def`, and the lexicons in the
+/// order in which they are read.
 #[derive(Clone, Copy, Debug)]
 pub struct Sources<'a> {
     pub matrix: &'a [u8],

@@ -1,19 +1,20 @@
 //! A word of a text.
 
-/// Which list of a dictionary a word comes from.
+/// The dictionary entry that a word comes from.
 #[derive(Clone, Copy, Debug, PartialEq, Eq, Drop)]
 pub enum Origin {
-    /// An entry of a lexicon. Dictionary 0 is the system's; `token` is the entry's number in it.
+    /// An entry of a lexicon. Dictionary 0 is the system dictionary, and `token` is the number of
+    /// the entry in its dictionary.
     Known { dict: usize, token: u32 },
-    /// An unknown entry of the system, by its number there.
+    /// An unknown entry of the system dictionary, by its number there.
     Unknown { token: u32 },
 }
 
-/// A stretch of a text that may stand in a path.
+/// A word of a text, which a path may contain.
 ///
-/// `place`, `start` and `end` are byte offsets into the text: the word's blanks stand from `place`
-/// to `start`, and its surface from `start` to `end`. `left` and `right` are context ids, and
-/// `cost` is the word cost, of which less is preferred. (MeCab, dic-detail)
+/// `place`, `start` and `end` are byte offsets into the text. The blanks before the word lie from
+/// `place` to `start`, and its surface from `start` to `end`. `left` and `right` are context ids.
+/// `cost` is the word cost; lower costs are preferred. (MeCab, dic-detail)
 #[derive(Clone, Copy, Debug, PartialEq, Eq, Drop)]
 pub struct Word {
     pub place: usize,

@@ -1,4 +1,4 @@
--- Four texts read as a format, or have a first fault.
+-- Four texts parse as a format, or have a first error.
 use Rattle.std.proofs.Common.{◌≡◌, ℕ, zero, suc, ◌-◌, ◌<◌, ◌≤◌, List, [], ◌∷◌, ◌++◌, length, take, drop, refl, sym, ap, subst, arith, Option, Some, None, inl, inr, ◌⊎◌}
 use Rattle.std.specs.Prelude.{Result, Ok, Err, nat_le}
 use Rattle.std.proofs.lemmas.Bool.{cases_Bool, cases_eq, cases_lt, cond-true, cond-false}
@@ -15,10 +15,10 @@ use Rattle.mj_model.specs.declared.format_fault.FormatKind.{FormatKind}
 use Rattle.mj_model.specs.declared.format_fault.FormatKind.TheVariants.{BadEscape}
 use Rattle.mj_model.specs.declared.format_fault.FormatFault.{FormatFault}
 use Rattle.mj_model.specs.declared.format_fault.FormatFault.TheVariants as fault
-use Rattle.out_format.specs.Formats.{Piece, Byte, Shows, byte_of_escape, bad_item, includes, Begins, Reads, IsBadAt, Format, FormatTexts, part_text, IsFormat, HasOneFormat}
+use Rattle.out_format.specs.Formats.{Piece, Byte, ItemPiece, byte_of_escape, bad_item, includes, StartsWithPiece, Reads, IsBadAt, Format, FormatTexts, part_text, IsFormat, HasOneFormat}
 use Rattle.mj_model.specs.Numbers.{digits_value}
-use Rattle.out_format.specs.FirstItems.{HasIndex, HasNoIndex, HasNoField, HasNoItem, IsStuck}
-use Rattle.out_format.specs.declared.items.ShownIn.TheVariants.{Words}
+use Rattle.out_format.specs.FirstItems.{HasIndex, HasNoIndex, HasNoField, HasNoItem, HasNoPiece}
+use Rattle.out_format.specs.declared.items.AllowedIn.TheVariants.{Words}
 use Rattle.out_format.specs.declared.items.TheConstants.{ITEMS}
 use Rattle.out_format.proofs.IndexLemmas.{digits_before, has_index, no_bracket, no_text, too_few, too_many, at_end, not_closed, too_great}
 use Rattle.out_format.proofs.ItemLemmas.{fits, begins_listed, begins_field, no_field_of, no_field, no_index, no_item}
@@ -31,20 +31,20 @@ abbrev AnIndex : List ℕ → Type 0
 AnIndex text = ((n : ℕ) × (rest : List ℕ) × HasIndex text n rest) ⊎ HasNoIndex text
 
 closed_index : (cs sub : List ℕ) → sub ≡ drop (digits_before cs) cs → (digits_before cs ≡ 0 → ⊥) → digits_before cs ≤ 5 → AnIndex (91 ∷ cs)
-closed_index cs [] behind some few = inr (at_end cs [] (digits_before cs) refl behind refl)
-closed_index cs (d ∷ more) behind some few = elim (cases_eq d 93) [
+closed_index cs [] following some few = inr (at_end cs [] (digits_before cs) refl following refl)
+closed_index cs (d ∷ more) following some few = elim (cases_eq d 93) [
   | inl is ↦
       let value = digits_value (take (digits_before cs) cs) in
       elim (cases_Bool (nat_le value 65535)) [
         | inl fits ↦ inl (
           value,
           more,
-          has_index cs (d ∷ more) more (digits_before cs) value refl (prefix_len-le-length is_ascii_digit cs) some few behind (ap (λ (k : ℕ). k ∷ more) is)
+          has_index cs (d ∷ more) more (digits_before cs) value refl (prefix_len-le-length is_ascii_digit cs) some few following (ap (λ (k : ℕ). k ∷ more) is)
               (sym (cond-true (nat_le value 65535) (Some value) None fits)),
         )
         | inr great ↦ inr (too_great cs (digits_before cs) refl (sym (cond-false (nat_le value 65535) (Some value) None great)))
       ]
-  | inr other ↦ inr (not_closed cs (d ∷ more) more (digits_before cs) d refl behind refl other)
+  | inr other ↦ inr (not_closed cs (d ∷ more) more (digits_before cs) d refl following refl other)
 ]
 
 inside_index : (cs : List ℕ) → AnIndex (91 ∷ cs)
@@ -66,9 +66,9 @@ an_index (c ∷ cs) = elim (cases_eq c 91) [
 -- ---- an item
 
 abbrev AField : FormatPart → List ℕ → Type 0
-AField part behind = ((n : ℕ) × (rest : List ℕ) × Begins part (Shows (item.Field n)) (37 ∷ behind) rest) ⊎ HasNoField part (37 ∷ behind)
+AField part following = ((n : ℕ) × (rest : List ℕ) × StartsWithPiece part (ItemPiece (item.Field n)) (37 ∷ following) rest) ⊎ HasNoField part (37 ∷ following)
 
-a_field : (part : FormatPart) (behind : List ℕ) → AField part behind
+a_field : (part : FormatPart) (following : List ℕ) → AField part following
 a_field part [] = inr (no_field part [] (λ inside e. absurd (no_head 102 inside e)))
 a_field part (c ∷ cs) = elim (cases_eq c 102) [
   | inr other ↦ inr (no_field part (c ∷ cs) (λ inside e. absurd (other (same_head c 102 cs inside e))))
@@ -82,24 +82,24 @@ a_field part (c ∷ cs) = elim (cases_eq c 102) [
 ]
 
 abbrev AnItem : FormatPart → List ℕ → Type 0
-AnItem part behind = ((i : FormatItem) × (rest : List ℕ) × Begins part (Shows i) (37 ∷ behind) rest) ⊎ HasNoItem part (37 ∷ behind)
+AnItem part following = ((i : FormatItem) × (rest : List ℕ) × StartsWithPiece part (ItemPiece i) (37 ∷ following) rest) ⊎ HasNoItem part (37 ∷ following)
 
-an_item : (part : FormatPart) (behind : List ℕ) → AnItem part behind
-an_item part behind = elim (cases_Bool (list_any (fits part behind) ITEMS)) [
+an_item : (part : FormatPart) (following : List ℕ) → AnItem part following
+an_item part following = elim (cases_Bool (list_any (fits part following) ITEMS)) [
   | inl some ↦
-      let found = Any-from_list_any (fits part behind) ITEMS some in
+      let found = Any-from_list_any (fits part following) ITEMS some in
       let row = found.1 in
-      inl (row.1, drop (length row.0.now) behind, begins_listed part behind row (found.0, found.2, found.3) found.4)
-  | inr none ↦ elim (a_field part behind) [
+      inl (row.1, drop (length row.0.now) following, begins_listed part following row (found.0, found.2, found.3) found.4)
+  | inr none ↦ elim (a_field part following) [
     | inl (n, rest, h) ↦ inl (item.Field n, rest, h)
-    | inr no_one ↦ inr (no_item part behind none no_one)
+    | inr no_one ↦ inr (no_item part following none no_one)
   ]
 ]
 
 -- ---- a piece
 
 abbrev APiece : FormatPart → List ℕ → Type 0
-APiece part text = ((piece : Piece) × (rest : List ℕ) × Begins part piece text rest) ⊎ ((kind : FormatKind) × IsStuck part text kind)
+APiece part text = ((piece : Piece) × (rest : List ℕ) × StartsWithPiece part piece text rest) ⊎ ((kind : FormatKind) × HasNoPiece part text kind)
 
 escape_by : (part : FormatPart) (c : ℕ) (cs : List ℕ) (found : Option ℕ) → byte_of_escape c ≡ found → APiece part (92 ∷ c ∷ cs)
 escape_by part c cs None e = inr (BadEscape, stuck_at_escape part c cs e)
@@ -109,10 +109,10 @@ an_escape : (part : FormatPart) (text : List ℕ) → APiece part (92 ∷ text)
 an_escape part [] = inr (BadEscape, stuck_at_end part)
 an_escape part (c ∷ cs) = escape_by part c cs (byte_of_escape c) refl
 
-item_of_part : (part : FormatPart) (behind : List ℕ) → APiece part (37 ∷ behind)
-item_of_part part behind = elim (an_item part behind) [
-  | inl (i, rest, h) ↦ inl (Shows i, rest, h)
-  | inr none ↦ inr (bad_item part behind, stuck_at_item part behind (bad_item part behind) none refl)
+item_of_part : (part : FormatPart) (following : List ℕ) → APiece part (37 ∷ following)
+item_of_part part following = elim (an_item part following) [
+  | inl (i, rest, h) ↦ inl (ItemPiece i, rest, h)
+  | inr none ↦ inr (bad_item part following, stuck_at_item part following (bad_item part following) none refl)
 ]
 
 a_piece : (part : FormatPart) (c : ℕ) (cs : List ℕ) → APiece part (c ∷ cs)

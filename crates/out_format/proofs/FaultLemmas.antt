@@ -1,4 +1,4 @@
--- The fault of a part is the first of the format where the parts before it read.
+-- If the parts before a part are valid, its error is the first error of the format.
 use Rattle.std.proofs.Common.{◌≡◌, ℕ, List, refl, sym, ◌∙◌, ap, subst, inl, inr, ◌⊎◌, Bor, Option, Some, None}
 use Rattle.std.specs.Prelude.{Err, unwrap_or}
 use Rattle.mj_model.specs.declared.format_fault.FormatPart.{FormatPart}
@@ -20,7 +20,7 @@ same_text : (node : Bor (List ℕ)) (unk : Option (Bor (List ℕ))) (bos eos : L
 same_text node None bos eos = refl
 same_text node (Some text) bos eos = refl
 
--- the text of unknown words, or that of the known ones
+-- the text of unknown words, or the text of known words in its place
 pub good_unk : (node : Bor (List ℕ)) (unk : Option (Bor (List ℕ))) (text : Bor (List ℕ)) (bos eos : List ℕ) (pieces : List Piece) → text ≡ unwrap_or unk node → Reads Unk pieces text.now
     → IsGood (texts_of node.now unk bos eos) Unk
 good_unk node unk text bos eos pieces is reads =

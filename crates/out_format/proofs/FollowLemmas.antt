@@ -6,15 +6,15 @@ use Rattle.mj_model.specs.declared.limits.TheConstants.{SENTENCE_MAX}
 use Rattle.mj_model.specs.declared.word.Word.{Word}
 use Rattle.mj_model.specs.Bounds.{IsWithin}
 use Rattle.mj_model.specs.Connection.{is_pair}
-use Rattle.paths.specs.Laws.{HasWords}
-use Rattle.paths.specs.Paths.{IsChain, IsPath}
-use Rattle.paths.specs.Searchable.{IsSearchable}
+use Rattle.mj_model.specs.Laws.{HasWords}
+use Rattle.mj_model.specs.Paths.{IsChain, IsPath}
+use Rattle.mj_model.specs.Searchable.{IsSearchable}
 use Rattle.mj_model.specs.Tables.{Overlay}
-use Rattle.paths.specs.Words.{is_place, words}
-use Rattle.paths.proofs.PlaceWords.{in_words}
+use Rattle.mj_model.specs.Words.{is_place, words}
+use Rattle.mj_model.proofs.PlaceWords.{in_words}
 use Rattle.mj_model.specs.declared.word.Origin.{Origin}
 use Rattle.mj_model.specs.Printed.{feature_of}
-use Rattle.out_format.specs.Standings.{HasFeature, IsWordOf}
+use Rattle.out_format.specs.WordContexts.{HasFeature, IsWordOf}
 use Rattle.out_format.specs.Followable.{IsLow, AreFollowable}
 use Rattle.word_lookup.specs.declared.dictionaries.Dictionaries.{Dictionaries}
 use Rattle.word_lookup.specs.Overlays.{overlay_of}

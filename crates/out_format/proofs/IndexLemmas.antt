@@ -1,4 +1,5 @@
--- An index between brackets: its digits are all those at the beginning, so where they end, what they say and what follows are fixed.
+-- An index between brackets: its digits are all the leading digits, so its end, its value and the
+-- remainder are unique.
 use Rattle.std.proofs.Common.{◌≡◌, ℕ, suc, ◌+◌, ◌-◌, ◌*◌, ◌<◌, ◌≤◌, true, cond, List, [], ◌∷◌, ◌++◌, length, take, drop, get_or, refl, sym, ◌∙◌, ap, arith, Some, None, inl, inr, fold}
 use Rattle.std.specs.Prelude.{nat_le}
 use Rattle.std.specs.Char.{is_ascii_digit}
@@ -31,7 +32,7 @@ are_digits (c ∷ cs) = elim (cases_Bool (is_ascii_digit c)) [
   | inr not_one ↦ ap (λ (k : ℕ). all_ascii_digits (take k (c ∷ cs))) (cond-false (is_ascii_digit c) (1 + digits_before cs) 0 not_one)
 ]
 
--- what an index says of the text behind its opening bracket
+-- the text after the opening bracket of an index
 pub record IndexFacts (cs : List ℕ) (n : ℕ) (rest : List ℕ) : Type 0 where
   pub some : 1 ≤ digits_before cs
   pub few : digits_before cs ≤ 5
@@ -83,7 +84,7 @@ value_fits value n e = elim (cases_Bool (nat_le value 65535)) [
 
 pub has_index : (cs sub rest : List ℕ) (count n : ℕ) → count ≡ digits_before cs → count ≤ length cs → (count ≡ 0 → ⊥) → count ≤ 5 → sub ≡ drop count cs → sub ≡ 93 ∷ rest
     → Some n ≡ cond (nat_le (digits_value (take count cs)) 65535) (Some (digits_value (take count cs))) None → HasIndex (91 ∷ cs) n rest
-has_index cs sub rest count n is within some few behind closed number =
+has_index cs sub rest count n is within some few following closed number =
     let long : length (take count cs) ≡ count = length-take-le count cs within in
     let v = value_fits (digits_value (take count cs)) n number in
     record {
@@ -95,7 +96,7 @@ has_index cs sub rest count n is within some few behind closed number =
         value = v.0;
         low = v.1;
       };
-      is = ap (λ (xs : List ℕ). 91 ∷ xs) (sym (take-append-drop count cs) ∙ ap (λ (xs : List ℕ). take count cs ++ xs) (sym behind ∙ closed));
+      is = ap (λ (xs : List ℕ). 91 ∷ xs) (sym (take-append-drop count cs) ∙ ap (λ (xs : List ℕ). take count cs ++ xs) (sym following ∙ closed));
     }
 
 pub no_bracket : (c : ℕ) (cs : List ℕ) → (c ≡ 91 → ⊥) → HasNoIndex (c ∷ cs)
@@ -111,19 +112,19 @@ pub too_many : (cs : List ℕ) (count : ℕ) → count ≡ digits_before cs → 
 too_many cs count is many = λ n rest has. let f = (facts_of cs rest n has).few in omega (arith, is, many, f)
 
 pub at_end : (cs sub : List ℕ) (count : ℕ) → count ≡ digits_before cs → sub ≡ drop count cs → sub ≡ [] → HasNoIndex (91 ∷ cs)
-at_end cs sub count is behind end = λ n rest has.
+at_end cs sub count is following end = λ n rest has.
     let f : digits_before cs < length cs = (facts_of cs rest n has).within in
     let long : length (drop count cs) ≡ length cs - count = length-drop count cs in
-    let none : length (drop count cs) ≡ 0 = ap length (sym behind ∙ end) in
+    let none : length (drop count cs) ≡ 0 = ap length (sym following ∙ end) in
     omega (arith, is, f, long, none)
 
 pub not_closed : (cs sub more : List ℕ) (count c : ℕ) → count ≡ digits_before cs → sub ≡ drop count cs → sub ≡ c ∷ more → (c ≡ 93 → ⊥) → HasNoIndex (91 ∷ cs)
-not_closed cs sub more count c is behind here other = λ n rest has.
+not_closed cs sub more count c is following here other = λ n rest has.
     let f = facts_of cs rest n has in
     let there : get_or cs count 0 ≡ 93 = ap (λ (k : ℕ). get_or cs k 0) is ∙ f.closed in
     let low : digits_before cs < length cs = f.within in
     let within : count < length cs = omega (arith, is, low) in
-    let split : c ∷ more ≡ get_or cs count 0 ∷ drop (count + 1) cs = sym (sym behind ∙ here) ∙ drop_more cs count 0 within in
+    let split : c ∷ more ≡ get_or cs count 0 ∷ drop (count + 1) cs = sym (sym following ∙ here) ∙ drop_more cs count 0 within in
     other (same_head c (get_or cs count 0) more (drop (count + 1) cs) split ∙ there)
 
 pub too_great : (cs : List ℕ) (count : ℕ) → count ≡ digits_before cs

@@ -1,4 +1,5 @@
--- A text begins with at most one item: no letters of the table begin with another row's, nor with the letter of the fields.
+-- A text starts with at most one item: no row's letters are a prefix of another row's, and none
+-- starts with the letter of the fields.
 use Rattle.std.proofs.Common.{◌≡◌, ℕ, Bool, ◌+◌, ◌-◌, ◌<◌, ◌≤◌, Option, Some, None, cond, ◌==◌, true, false, List, [], ◌∷◌, ◌++◌, length, drop, take, get_or, refl, sym, ◌∙◌, ap, subst, inl, inr, append_assoc, arith, Contains}
 use Rattle.std.specs.Prelude.{◌&&◌, map}
 use Rattle.std.specs.List.{AllPairs, list_all, list_any, starts_with}
@@ -15,16 +16,16 @@ use Rattle.mj_model.specs.declared.format_item.FormatItem.TheVariants as item
 use Rattle.mj_model.specs.declared.format_fault.FormatPart.{FormatPart}
 use Rattle.mj_model.proofs.Basics.{same_head, same_tail}
 use Rattle.out_format.specs.declared.first_item.FirstItem.{FirstItem}
-use Rattle.out_format.specs.declared.items.ShownIn.TheVariants.{Words}
+use Rattle.out_format.specs.declared.items.AllowedIn.TheVariants.{Words}
 use Rattle.out_format.specs.declared.items.TheConstants.{ITEMS}
-use Rattle.out_format.specs.Formats.{Row, includes, IsListed, IsField, SpellsItem, Shows, Begins}
-use Rattle.out_format.specs.Answers.{HeldRow, row_of, IsFirstField, IsFirstItem}
+use Rattle.out_format.specs.Formats.{Row, includes, IsListed, IsField, SpellsItem, ItemPiece, StartsWithPiece}
+use Rattle.out_format.specs.Results.{StoredRow, row_of, IsFirstField, IsFirstItem}
 use Rattle.out_format.specs.FirstItems.{HasIndex, HasNoIndex, HasNoField, HasNoItem}
 use Rattle.out_format.proofs.IndexLemmas.{facts_of}
 
 -- ---- the rows of the table
 
--- two texts differ at a place that both have
+-- two texts differ at an index that both have
 differ : List ℕ → List ℕ → Bool
 differ [] ys = false
 differ (x ∷ xs) [] = false
@@ -74,27 +75,27 @@ one_row r s rest more (i, low, is) (j, lower, here) e =
           absurd (not_both s.0.now r.0.now more rest apart (sym e))
     ]
 
--- ---- the item that a text begins with
+-- ---- the item at the start of a text
 
 pub percent_first : (part : FormatPart) (i : FormatItem) (front : List ℕ) → SpellsItem part i front → (more : List ℕ) × (front ≡ 37 ∷ more)
 percent_first part i front (inl listed) = (listed.letters, listed.is)
 percent_first part i front (inr field) = (102 ∷ 91 ∷ (field.digits ++ 93 ∷ []), field.is)
 
--- a part may show the item of a row, and a text begins with its letters
+-- the part may use the item of a row, and the text starts with its letters
 abbrev pub fits : FormatPart → List ℕ → Row → Bool
-fits part behind row = includes row.2 part && starts_with ◌==◌ behind row.0.now
+fits part following row = includes row.2 part && starts_with ◌==◌ following row.0.now
 
-pub begins_listed : (part : FormatPart) (behind : List ℕ) (row : Row) → Contains ITEMS row → fits part behind row ≡ true → Begins part (Shows row.1) (37 ∷ behind) (drop (length row.0.now) behind)
-begins_listed part behind row in' h =
-    let both = and_parts (includes row.2 part) (starts_with ◌==◌ behind row.0.now) h in
+pub begins_listed : (part : FormatPart) (following : List ℕ) (row : Row) → Contains ITEMS row → fits part following row ≡ true → StartsWithPiece part (ItemPiece row.1) (37 ∷ following) (drop (length row.0.now) following)
+begins_listed part following row in' h =
+    let both = and_parts (includes row.2 part) (starts_with ◌==◌ following row.0.now) h in
     record {
       front = 37 ∷ row.0.now;
       spelled = inl (record { letters = row.0.now; texts = row.2; row = in'; may = both.0; is = refl });
-      is = ap (λ (xs : List ℕ). 37 ∷ xs) ((starts_is Decides-eqb behind row.0.now _ refl).0 both.1);
+      is = ap (λ (xs : List ℕ). 37 ∷ xs) ((starts_is Decides-eqb following row.0.now _ refl).0 both.1);
     }
 
-pub begins_field : (part : FormatPart) (behind rest : List ℕ) (n : ℕ) → includes Words part ≡ true → HasIndex behind n rest → Begins part (Shows (item.Field n)) (37 ∷ 102 ∷ behind) rest
-begins_field part behind rest n may has = record {
+pub begins_field : (part : FormatPart) (following rest : List ℕ) (n : ℕ) → includes Words part ≡ true → HasIndex following n rest → StartsWithPiece part (ItemPiece (item.Field n)) (37 ∷ 102 ∷ following) rest
+begins_field part following rest n may has = record {
   front = 37 ∷ 102 ∷ 91 ∷ (has.digits ++ 93 ∷ []);
   spelled = inr (record { n = n; digits = has.digits; is_field = refl; is_index = has.is_index; may = may; is = refl });
   is = ap (λ (xs : List ℕ). 37 ∷ 102 ∷ xs) (has.is ∙ ap (λ (xs : List ℕ). 91 ∷ xs) (sym (append_assoc has.digits (93 ∷ []) rest)));
@@ -102,87 +103,87 @@ begins_field part behind rest n may has = record {
 
 -- ---- how the code goes over the table
 
-row_here : (rows : List HeldRow) (table : List Row) (i : ℕ) (d : HeldRow) → map row_of rows ≡ table → i < length rows
+row_here : (rows : List StoredRow) (table : List Row) (i : ℕ) (d : StoredRow) → map row_of rows ≡ table → i < length rows
     → get_or table i (row_of d) ≡ row_of (get_or rows i d)
 row_here rows table i d is low = ap (λ (t : List Row). get_or t i (row_of d)) (sym is) ∙ get_or-map row_of rows i d (row_of d) low
 
-below : (rows : List HeldRow) (table : List Row) (i : ℕ) → map row_of rows ≡ table → i < length rows → i < length table
+below : (rows : List StoredRow) (table : List Row) (i : ℕ) → map row_of rows ≡ table → i < length rows → i < length table
 below rows table i is low = let n : length rows ≡ length table = sym (length-map rows row_of) ∙ ap length is in omega (arith, low, n)
 
-pub row_begins : (part : FormatPart) (behind : List ℕ) (rows : List HeldRow) (i : ℕ) (d : HeldRow) → map row_of rows ≡ ITEMS → i < length rows
-    → includes (get_or rows i d).2 part ≡ true → starts_with ◌==◌ behind (get_or rows i d).0.now ≡ true
-    → Begins part (Shows (get_or rows i d).1) (37 ∷ behind) (take (length behind - length (get_or rows i d).0.now) (drop (length (get_or rows i d).0.now) behind))
-row_begins part behind rows i d is low may begins =
+pub row_begins : (part : FormatPart) (following : List ℕ) (rows : List StoredRow) (i : ℕ) (d : StoredRow) → map row_of rows ≡ ITEMS → i < length rows
+    → includes (get_or rows i d).2 part ≡ true → starts_with ◌==◌ following (get_or rows i d).0.now ≡ true
+    → StartsWithPiece part (ItemPiece (get_or rows i d).1) (37 ∷ following) (take (length following - length (get_or rows i d).0.now) (drop (length (get_or rows i d).0.now) following))
+row_begins part following rows i d is low may begins =
     let row = row_of (get_or rows i d) in
     let in' : Contains ITEMS row = subst (Contains ITEMS) (row_here rows ITEMS i d is low) (Contains-get_or ITEMS i (row_of d) (below rows ITEMS i is low)) in
-    subst (Begins part (Shows row.1) (37 ∷ behind)) (sym (take_rest behind (length row.0.now)))
-    (begins_listed part behind row in' (and_from (includes row.2 part) (starts_with ◌==◌ behind row.0.now) may begins))
+    subst (StartsWithPiece part (ItemPiece row.1) (37 ∷ following)) (sym (take_rest following (length row.0.now)))
+    (begins_listed part following row in' (and_from (includes row.2 part) (starts_with ◌==◌ following row.0.now) may begins))
 
-pub none_so_far : (part : FormatPart) (behind : List ℕ) (rows : List HeldRow) (table : List Row) (i : ℕ) (d : HeldRow) → map row_of rows ≡ table
-    → i < length rows → fits part behind (row_of (get_or rows i d)) ≡ false → list_any (fits part behind) (take i table) ≡ false → list_any (fits part behind) (take (i + 1) table) ≡ false
-none_so_far part behind rows table i d is low unfit before =
-    list_any_more (fits part behind) table i (row_of d) (below rows table i is low)
-    ∙ or_from (list_any (fits part behind) (take i table)) (fits part behind (get_or table i (row_of d))) before (ap (fits part behind) (row_here rows table i d is low) ∙ unfit)
+pub none_so_far : (part : FormatPart) (following : List ℕ) (rows : List StoredRow) (table : List Row) (i : ℕ) (d : StoredRow) → map row_of rows ≡ table
+    → i < length rows → fits part following (row_of (get_or rows i d)) ≡ false → list_any (fits part following) (take i table) ≡ false → list_any (fits part following) (take (i + 1) table) ≡ false
+none_so_far part following rows table i d is low unfit before =
+    list_any_more (fits part following) table i (row_of d) (below rows table i is low)
+    ∙ or_from (list_any (fits part following) (take i table)) (fits part following (get_or table i (row_of d))) before (ap (fits part following) (row_here rows table i d is low) ∙ unfit)
 
 -- ---- a field
 
-record IsFieldAt (i : FormatItem) (behind rest : List ℕ) : Type 0 where
+record IsFieldAt (i : FormatItem) (following rest : List ℕ) : Type 0 where
   n : ℕ
   inside : List ℕ
   is : i ≡ item.Field n
-  there : behind ≡ 102 ∷ inside
+  there : following ≡ 102 ∷ inside
   has : HasIndex inside n rest
 
-field_at : (part : FormatPart) (i : FormatItem) (behind front rest : List ℕ) → IsField part i front → 37 ∷ behind ≡ front ++ rest → IsFieldAt i behind rest
-field_at part i behind front rest f is =
+field_at : (part : FormatPart) (i : FormatItem) (following front rest : List ℕ) → IsField part i front → 37 ∷ following ≡ front ++ rest → IsFieldAt i following rest
+field_at part i following front rest f is =
     let digits = f.digits in
-    let e : 37 ∷ behind ≡ 37 ∷ 102 ∷ 91 ∷ ((digits ++ 93 ∷ []) ++ rest) = is ∙ ap (λ (xs : List ℕ). xs ++ rest) f.is in
+    let e : 37 ∷ following ≡ 37 ∷ 102 ∷ 91 ∷ ((digits ++ 93 ∷ []) ++ rest) = is ∙ ap (λ (xs : List ℕ). xs ++ rest) f.is in
     record {
       n = f.n;
       inside = 91 ∷ (digits ++ 93 ∷ rest);
       is = f.is_field;
-      there = same_tail 37 37 behind (102 ∷ 91 ∷ (digits ++ 93 ∷ rest)) (e ∙ ap (λ (xs : List ℕ). 37 ∷ 102 ∷ 91 ∷ xs) (append_assoc digits (93 ∷ []) rest));
+      there = same_tail 37 37 following (102 ∷ 91 ∷ (digits ++ 93 ∷ rest)) (e ∙ ap (λ (xs : List ℕ). 37 ∷ 102 ∷ 91 ∷ xs) (append_assoc digits (93 ∷ []) rest));
       has = record { digits = digits; is_index = f.is_index; is = refl };
     }
 
-letters_at : (behind letters front rest : List ℕ) → front ≡ 37 ∷ letters → 37 ∷ behind ≡ front ++ rest → behind ≡ letters ++ rest
-letters_at behind letters front rest spelled is = same_tail 37 37 behind (letters ++ rest) (is ∙ ap (λ (xs : List ℕ). xs ++ rest) spelled)
+letters_at : (following letters front rest : List ℕ) → front ≡ 37 ∷ letters → 37 ∷ following ≡ front ++ rest → following ≡ letters ++ rest
+letters_at following letters front rest spelled is = same_tail 37 37 following (letters ++ rest) (is ∙ ap (λ (xs : List ℕ). xs ++ rest) spelled)
 
--- ---- no item begins a text
+-- ---- no item starts a text
 
 pub no_field_of : (part : FormatPart) (text : List ℕ) → includes Words part ≡ false → HasNoField part text
 no_field_of part text none = λ i front rest f is. let may = f.may in absurd (cc)
 
-pub no_field : (part : FormatPart) (behind : List ℕ) → ((inside : List ℕ) → behind ≡ 102 ∷ inside → HasNoIndex inside) → HasNoField part (37 ∷ behind)
-no_field part behind none = λ i front rest f is. let at = field_at part i behind front rest f is in none at.inside at.there at.n rest at.has
+pub no_field : (part : FormatPart) (following : List ℕ) → ((inside : List ℕ) → following ≡ 102 ∷ inside → HasNoIndex inside) → HasNoField part (37 ∷ following)
+no_field part following none = λ i front rest f is. let at = field_at part i following front rest f is in none at.inside at.there at.n rest at.has
 
 pub no_index : (part : FormatPart) (cs : List ℕ) → HasNoIndex cs → HasNoField part (37 ∷ 102 ∷ cs)
 no_index part cs none = no_field part (102 ∷ cs) (λ inside e. subst HasNoIndex (same_tail 102 102 cs inside e) none)
 
-pub no_item : (part : FormatPart) (behind : List ℕ) → list_any (fits part behind) ITEMS ≡ false → HasNoField part (37 ∷ behind) → HasNoItem part (37 ∷ behind)
-no_item part behind none no_one = λ i rest h. elim h.spelled [
+pub no_item : (part : FormatPart) (following : List ℕ) → list_any (fits part following) ITEMS ≡ false → HasNoField part (37 ∷ following) → HasNoItem part (37 ∷ following)
+no_item part following none no_one = λ i rest h. elim h.spelled [
   | inl l ↦
       let at = l.row in
       let row : Row = (record { now = l.letters }, i, l.texts) in
-      let here = (starts_is Decides-eqb behind l.letters _ refl).1 rest (letters_at behind l.letters h.front rest l.is h.is) in
-      let there : fits part behind (get_or ITEMS at.0 row) ≡ true =
-      subst (λ (r : Row). fits part behind r ≡ true) (sym at.2) (and_from (includes l.texts part) (starts_with ◌==◌ behind l.letters) l.may here) in
-      let some = list_any_at (fits part behind) ITEMS at.0 row at.1 there in
+      let here = (starts_is Decides-eqb following l.letters _ refl).1 rest (letters_at following l.letters h.front rest l.is h.is) in
+      let there : fits part following (get_or ITEMS at.0 row) ≡ true =
+      subst (λ (r : Row). fits part following r ≡ true) (sym at.2) (and_from (includes l.texts part) (starts_with ◌==◌ following l.letters) l.may here) in
+      let some = list_any_at (fits part following) ITEMS at.0 row at.1 there in
       absurd (cc)
   | inr f ↦ no_one i h.front rest f h.is
 ]
 
-pub after_the_rows : (part : FormatPart) (behind : List ℕ) (rows : List HeldRow) (table : List Row) (i : ℕ) → map row_of rows ≡ table → length rows ≤ i
-    → list_any (fits part behind) (take i table) ≡ false → list_any (fits part behind) table ≡ false
-after_the_rows part behind rows table i is past none =
+pub after_the_rows : (part : FormatPart) (following : List ℕ) (rows : List StoredRow) (table : List Row) (i : ℕ) → map row_of rows ≡ table → length rows ≤ i
+    → list_any (fits part following) (take i table) ≡ false → list_any (fits part following) table ≡ false
+after_the_rows part following rows table i is past none =
     let n : length rows ≡ length table = sym (length-map rows row_of) ∙ ap length is in
-    sym (ap (list_any (fits part behind)) (take_all i table (omega (arith, past, n)))) ∙ none
+    sym (ap (list_any (fits part following)) (take_all i table (omega (arith, past, n)))) ∙ none
 
-pub field_or_none : (part : FormatPart) (behind : List ℕ) (first : Option FirstItem) → list_any (fits part behind) ITEMS ≡ false → IsFirstField part (37 ∷ behind) first → IsFirstItem part (37 ∷ behind) first
-field_or_none part behind None none h = no_item part behind none h
-field_or_none part behind (Some field) none h = h
+pub field_or_none : (part : FormatPart) (following : List ℕ) (first : Option FirstItem) → list_any (fits part following) ITEMS ≡ false → IsFirstField part (37 ∷ following) first → IsFirstItem part (37 ∷ following) first
+field_or_none part following None none h = no_item part following none h
+field_or_none part following (Some field) none h = h
 
--- ---- a text begins with at most one item
+-- ---- a text starts with at most one item
 
 one_index : (inside rest more : List ℕ) (n m : ℕ) → HasIndex inside n rest → HasIndex inside m more → (n ≡ m) × (rest ≡ more)
 one_index inside rest more n m h k =
@@ -191,33 +192,33 @@ one_index inside rest more n m h k =
     let g = facts_of opened more m (subst (λ (xs : List ℕ). HasIndex xs m more) h.is k) in
     (sym f.value ∙ g.value, f.rest_is ∙ sym g.rest_is)
 
-one_listed : (part : FormatPart) (i j : FormatItem) (behind front back rest more : List ℕ) → IsListed part i front → IsListed part j back → 37 ∷ behind ≡ front ++ rest → 37 ∷ behind ≡ back ++ more → (i ≡ j) × (rest ≡ more)
-one_listed part i j behind front back rest more l m h k =
-    let a = letters_at behind l.letters front rest l.is h in
-    let b = letters_at behind m.letters back more m.is k in
+one_listed : (part : FormatPart) (i j : FormatItem) (following front back rest more : List ℕ) → IsListed part i front → IsListed part j back → 37 ∷ following ≡ front ++ rest → 37 ∷ following ≡ back ++ more → (i ≡ j) × (rest ≡ more)
+one_listed part i j following front back rest more l m h k =
+    let a = letters_at following l.letters front rest l.is h in
+    let b = letters_at following m.letters back more m.is k in
     let one = one_row (record { now = l.letters }, i, l.texts) (record { now = m.letters }, j, m.texts) rest more l.row m.row (sym a ∙ b) in
     let n : length l.letters ≡ length m.letters = ap (λ (r : Row). length r.0.now) one in (
       ap (λ (r : Row). r.1) one,
-      sym (ap (drop (length l.letters)) a ∙ drop_at l.letters rest (length l.letters) refl) ∙ ap (λ (k : ℕ). drop k behind) n ∙ ap (drop (length m.letters)) b
+      sym (ap (drop (length l.letters)) a ∙ drop_at l.letters rest (length l.letters) refl) ∙ ap (λ (k : ℕ). drop k following) n ∙ ap (drop (length m.letters)) b
           ∙ drop_at m.letters more (length m.letters) refl,
     )
 
-one_field : (i j : FormatItem) (behind rest more : List ℕ) → IsFieldAt i behind rest → IsFieldAt j behind more → (i ≡ j) × (rest ≡ more)
-one_field i j behind rest more f g =
+one_field : (i j : FormatItem) (following rest more : List ℕ) → IsFieldAt i following rest → IsFieldAt j following more → (i ≡ j) × (rest ≡ more)
+one_field i j following rest more f g =
     let same : HasIndex f.inside g.n more = subst (λ (xs : List ℕ). HasIndex xs g.n more) (same_tail 102 102 g.inside f.inside (sym g.there ∙ f.there)) g.has in
     let one = one_index f.inside rest more f.n g.n f.has same in
     (f.is ∙ ap (λ (n : ℕ). item.Field n) one.0 ∙ sym g.is, one.1)
 
-not_both_kinds : (part : FormatPart) (i j : FormatItem) (behind front back rest more : List ℕ) → IsListed part i front → IsField part j back → 37 ∷ behind ≡ front ++ rest → 37 ∷ behind ≡ back ++ more → ⊥
-not_both_kinds part i j behind front back rest more l f h k =
-    let at = field_at part j behind back more f k in
+not_both_kinds : (part : FormatPart) (i j : FormatItem) (following front back rest more : List ℕ) → IsListed part i front → IsField part j back → 37 ∷ following ≡ front ++ rest → 37 ∷ following ≡ back ++ more → ⊥
+not_both_kinds part i j following front back rest more l f h k =
+    let at = field_at part j following back more f k in
     let P = λ (row : Row). differ row.0.now (102 ∷ []) ≡ true in
     let apart = All-contains P ITEMS (record { now = l.letters }, i, l.texts) (AllPass-from_list_all (λ (row : Row). differ row.0.now (102 ∷ [])) ITEMS none_of_fields) l.row in
-    not_both l.letters (102 ∷ []) rest at.inside apart (sym (letters_at behind l.letters front rest l.is h) ∙ at.there)
+    not_both l.letters (102 ∷ []) rest at.inside apart (sym (letters_at following l.letters front rest l.is h) ∙ at.there)
 
-pub one_item : (part : FormatPart) (i j : FormatItem) (behind front back rest more : List ℕ) → SpellsItem part i front → SpellsItem part j back → 37 ∷ behind ≡ front ++ rest → 37 ∷ behind ≡ back ++ more
+pub one_item : (part : FormatPart) (i j : FormatItem) (following front back rest more : List ℕ) → SpellsItem part i front → SpellsItem part j back → 37 ∷ following ≡ front ++ rest → 37 ∷ following ≡ back ++ more
     → (i ≡ j) × (rest ≡ more)
-one_item part i j behind front back rest more (inl l) (inl m) h k = one_listed part i j behind front back rest more l m h k
-one_item part i j behind front back rest more (inl l) (inr f) h k = absurd (not_both_kinds part i j behind front back rest more l f h k)
-one_item part i j behind front back rest more (inr f) (inl l) h k = absurd (not_both_kinds part j i behind back front more rest l f k h)
-one_item part i j behind front back rest more (inr f) (inr g) h k = one_field i j behind rest more (field_at part i behind front rest f h) (field_at part j behind back more g k)
+one_item part i j following front back rest more (inl l) (inl m) h k = one_listed part i j following front back rest more l m h k
+one_item part i j following front back rest more (inl l) (inr f) h k = absurd (not_both_kinds part i j following front back rest more l f h k)
+one_item part i j following front back rest more (inr f) (inl l) h k = absurd (not_both_kinds part j i following back front more rest l f k h)
+one_item part i j following front back rest more (inr f) (inr g) h k = one_field i j following rest more (field_at part i following front rest f h) (field_at part j following back more g k)

@@ -3,9 +3,10 @@ pub mod ItemLemmas
 pub mod PieceLemmas
 pub mod FaultLemmas
 pub mod NamedFormats
-pub mod ShownLemmas
+pub mod PrintedLemmas
 pub mod FollowLemmas
 pub mod PlainLemmas
 pub mod OneFormat
 pub mod OneText
 pub mod AFormat
+pub mod SegmentationLemmas

@@ -1,5 +1,5 @@
--- Four texts read in at most one way: no spelling of a piece begins another, so the pieces of a text are fixed from its front on, and so is
--- the first place where none begins.
+-- Four texts parse in at most one way: no spelling of a piece is a prefix of another, so the pieces
+-- of a text are unique, and so is the first position at which no piece starts.
 use Rattle.std.proofs.Common.{◌≡◌, ℕ, ◌+◌, ◌-◌, ◌<◌, List, [], ◌∷◌, ◌++◌, length, take, drop, refl, sym, ◌∙◌, ap, subst, arith, Option, inl, inr, ◌⊎◌, append_assoc}
 use Rattle.std.specs.Prelude.{Result, Ok, Err}
 use Rattle.std.proofs.lemmas.List.{length-append, length-drop, take-append-drop}
@@ -10,7 +10,7 @@ use Rattle.mj_model.specs.declared.format_fault.FormatKind.{FormatKind}
 use Rattle.mj_model.specs.declared.format_fault.FormatFault.{FormatFault}
 use Rattle.mj_model.specs.declared.format_fault.FormatFault.TheVariants as fault
 use Rattle.mj_model.proofs.Basics.{same_head, same_tail}
-use Rattle.out_format.specs.Formats.{Piece, Byte, Shows, byte_of_escape, Begins, Reads, IsBadAt, bad_kind, Format, FormatTexts, part_text, IsGood, AreGoodBefore, ReadsFormat, IsFormat}
+use Rattle.out_format.specs.Formats.{Piece, Byte, ItemPiece, byte_of_escape, StartsWithPiece, Reads, IsBadAt, bad_kind, Format, FormatTexts, part_text, IsGood, AreGoodBefore, ReadsFormat, IsFormat}
 use Rattle.out_format.proofs.ItemLemmas.{percent_first, one_item}
 use Rattle.out_format.proofs.PieceLemmas.{SpelledBy, byte_no_item, rest_shorter}
 
@@ -29,17 +29,17 @@ one_byte table b d text front back rest more (inr (c, found, p)) (inr (a, there,
     let f : c ∷ rest ≡ a ∷ more = same_tail 92 92 (c ∷ rest) (a ∷ more) e in
     (same_Some b d (sym found ∙ ap table (same_head c a rest more f) ∙ there), same_tail c a rest more f)
 
-one_piece : (part : FormatPart) (p q : Piece) (text rest more : List ℕ) → Begins part p text rest → Begins part q text more → (p ≡ q) × (rest ≡ more)
-one_piece part (Shows i) (Shows j) text rest more h k =
+one_piece : (part : FormatPart) (p q : Piece) (text rest more : List ℕ) → StartsWithPiece part p text rest → StartsWithPiece part q text more → (p ≡ q) × (rest ≡ more)
+one_piece part (ItemPiece i) (ItemPiece j) text rest more h k =
     let a = percent_first part i h.front h.spelled in
     let e : text ≡ 37 ∷ (a.0 ++ rest) = h.is ∙ ap (λ (xs : List ℕ). xs ++ rest) a.1 in
     let one = one_item part i j (a.0 ++ rest) h.front k.front rest more h.spelled k.spelled (sym e ∙ h.is) (sym e ∙ k.is) in
-    (ap Shows one.0, one.1)
-one_piece part (Shows i) (Byte d) text rest more h k =
+    (ap ItemPiece one.0, one.1)
+one_piece part (ItemPiece i) (Byte d) text rest more h k =
     let a = percent_first part i h.front h.spelled in
     let e : text ≡ 37 ∷ (a.0 ++ rest) = h.is ∙ ap (λ (xs : List ℕ). xs ++ rest) a.1 in
     absurd (byte_no_item byte_of_escape d (a.0 ++ rest) k.front more k.spelled (sym e ∙ k.is))
-one_piece part (Byte b) (Shows j) text rest more h k =
+one_piece part (Byte b) (ItemPiece j) text rest more h k =
     let a = percent_first part j k.front k.spelled in
     let e : text ≡ 37 ∷ (a.0 ++ more) = k.is ∙ ap (λ (xs : List ℕ). xs ++ more) a.1 in
     absurd (byte_no_item byte_of_escape b (a.0 ++ more) h.front rest h.spelled (sym e ∙ h.is))
@@ -47,10 +47,10 @@ one_piece part (Byte b) (Byte d) text rest more h k =
     let one = one_byte byte_of_escape b d text h.front k.front rest more h.spelled k.spelled h.is k.is in
     (ap Byte one.0, one.1)
 
-longer : (part : FormatPart) (p : Piece) (text rest done behind : List ℕ) → Begins part p done rest → text ≡ done ++ behind → Begins part p text (rest ++ behind)
-longer part p text rest done behind h is = record { front = h.front; spelled = h.spelled; is = is ∙ ap (λ (xs : List ℕ). xs ++ behind) h.is ∙ append_assoc h.front rest behind }
+longer : (part : FormatPart) (p : Piece) (text rest done following : List ℕ) → StartsWithPiece part p done rest → text ≡ done ++ following → StartsWithPiece part p text (rest ++ following)
+longer part p text rest done following h is = record { front = h.front; spelled = h.spelled; is = is ∙ ap (λ (xs : List ℕ). xs ++ following) h.is ∙ append_assoc h.front rest following }
 
-nothing_begins : (part : FormatPart) (p : Piece) (text rest : List ℕ) → text ≡ [] → Begins part p text rest → ⊥
+nothing_begins : (part : FormatPart) (p : Piece) (text rest : List ℕ) → text ≡ [] → StartsWithPiece part p text rest → ⊥
 nothing_begins part p text rest none h = let less = rest_shorter part p text rest h in let e : length text ≡ 0 = ap length none in omega (arith, less, e)
 
 one_reading : (part : FormatPart) (ps qs : List Piece) (text : List ℕ) → Reads part ps text → Reads part qs text → ps ≡ qs
@@ -61,35 +61,35 @@ one_reading part (p ∷ ps) (q ∷ qs) text (rest, h, reads) (more, k, others) =
     let one = one_piece part p q text rest more h k in
     ap (λ (x : Piece). x ∷ ps) one.0 ∙ ap (λ (xs : List Piece). q ∷ xs) (one_reading part ps qs more (subst (Reads part ps) one.1 reads) others)
 
--- nothing begins a text
+-- no piece of the part starts the text
 abbrev Stuck : FormatPart → List ℕ → Type 0
-Stuck part text = (piece : Piece) (rest : List ℕ) → Begins part piece text rest → ⊥
+Stuck part text = (piece : Piece) (rest : List ℕ) → StartsWithPiece part piece text rest → ⊥
 
-unread : (part : FormatPart) (ps qs : List Piece) (done behind text : List ℕ) → text ≡ done ++ behind → Reads part ps done → Reads part qs text → 0 < length behind → Stuck part behind → ⊥
-unread part [] [] done behind text is h k some stuck =
-    let e : length text ≡ length done + length behind = ap length is ∙ length-append done behind in let none : length text ≡ 0 = ap length k in omega (arith, e, none, some)
-unread part [] (q ∷ qs) done behind text is h (more, k, reads) some stuck =
-    stuck q more (subst (λ (xs : List ℕ). Begins part q xs more) (is ∙ ap (λ (xs : List ℕ). xs ++ behind) h) k)
-unread part (p ∷ ps) [] done behind text is (rest, h, reads) k some stuck = nothing_begins part p text (rest ++ behind) k (longer part p text rest done behind h is)
-unread part (p ∷ ps) (q ∷ qs) done behind text is (rest, h, reads) (more, k, others) some stuck =
-    let one = one_piece part p q text (rest ++ behind) more (longer part p text rest done behind h is) k in unread part ps qs rest behind more (sym one.1) reads others some stuck
+unread : (part : FormatPart) (ps qs : List Piece) (done following text : List ℕ) → text ≡ done ++ following → Reads part ps done → Reads part qs text → 0 < length following → Stuck part following → ⊥
+unread part [] [] done following text is h k some stuck =
+    let e : length text ≡ length done + length following = ap length is ∙ length-append done following in let none : length text ≡ 0 = ap length k in omega (arith, e, none, some)
+unread part [] (q ∷ qs) done following text is h (more, k, reads) some stuck =
+    stuck q more (subst (λ (xs : List ℕ). StartsWithPiece part q xs more) (is ∙ ap (λ (xs : List ℕ). xs ++ following) h) k)
+unread part (p ∷ ps) [] done following text is (rest, h, reads) k some stuck = nothing_begins part p text (rest ++ following) k (longer part p text rest done following h is)
+unread part (p ∷ ps) (q ∷ qs) done following text is (rest, h, reads) (more, k, others) some stuck =
+    let one = one_piece part p q text (rest ++ following) more (longer part p text rest done following h is) k in unread part ps qs rest following more (sym one.1) reads others some stuck
 
 not_both : (part : FormatPart) (text : List ℕ) (qs : List Piece) (at : ℕ) (kind : FormatKind) → Reads part qs text → IsBadAt part text at kind → ⊥
 not_both part text qs at kind reads bad =
     let within : at < length text = bad.within in
     unread part bad.pieces qs (take at text) (drop at text) text (sym (take-append-drop at text)) bad.before reads (let long = length-drop at text in omega (arith, long, within)) bad.stuck
 
-one_stop : (part : FormatPart) (ps qs : List Piece) (done behind other beyond text : List ℕ) → text ≡ done ++ behind → text ≡ other ++ beyond → Reads part ps done → Reads part qs other → Stuck part behind → Stuck part beyond
-    → length behind ≡ length beyond
-one_stop part [] [] done behind other beyond text is also h k stuck no_more =
-    ap length (sym (is ∙ ap (λ (xs : List ℕ). xs ++ behind) h) ∙ also ∙ ap (λ (xs : List ℕ). xs ++ beyond) k)
-one_stop part [] (q ∷ qs) done behind other beyond text is also h (more, k, reads) stuck no_more =
-    absurd (stuck q (more ++ beyond) (subst (λ (xs : List ℕ). Begins part q xs (more ++ beyond)) (is ∙ ap (λ (xs : List ℕ). xs ++ behind) h) (longer part q text more other beyond k also)))
-one_stop part (p ∷ ps) [] done behind other beyond text is also (rest, h, reads) k stuck no_more =
-    absurd (no_more p (rest ++ behind) (subst (λ (xs : List ℕ). Begins part p xs (rest ++ behind)) (also ∙ ap (λ (xs : List ℕ). xs ++ beyond) k) (longer part p text rest done behind h is)))
-one_stop part (p ∷ ps) (q ∷ qs) done behind other beyond text is also (rest, h, reads) (more, k, others) stuck no_more =
-    let one = one_piece part p q text (rest ++ behind) (more ++ beyond) (longer part p text rest done behind h is) (longer part q text more other beyond k also) in
-    one_stop part ps qs rest behind more beyond (rest ++ behind) refl one.1 reads others stuck no_more
+one_stop : (part : FormatPart) (ps qs : List Piece) (done following other beyond text : List ℕ) → text ≡ done ++ following → text ≡ other ++ beyond → Reads part ps done → Reads part qs other → Stuck part following → Stuck part beyond
+    → length following ≡ length beyond
+one_stop part [] [] done following other beyond text is also h k stuck no_more =
+    ap length (sym (is ∙ ap (λ (xs : List ℕ). xs ++ following) h) ∙ also ∙ ap (λ (xs : List ℕ). xs ++ beyond) k)
+one_stop part [] (q ∷ qs) done following other beyond text is also h (more, k, reads) stuck no_more =
+    absurd (stuck q (more ++ beyond) (subst (λ (xs : List ℕ). StartsWithPiece part q xs (more ++ beyond)) (is ∙ ap (λ (xs : List ℕ). xs ++ following) h) (longer part q text more other beyond k also)))
+one_stop part (p ∷ ps) [] done following other beyond text is also (rest, h, reads) k stuck no_more =
+    absurd (no_more p (rest ++ following) (subst (λ (xs : List ℕ). StartsWithPiece part p xs (rest ++ following)) (also ∙ ap (λ (xs : List ℕ). xs ++ beyond) k) (longer part p text rest done following h is)))
+one_stop part (p ∷ ps) (q ∷ qs) done following other beyond text is also (rest, h, reads) (more, k, others) stuck no_more =
+    let one = one_piece part p q text (rest ++ following) (more ++ beyond) (longer part p text rest done following h is) (longer part q text more other beyond k also) in
+    one_stop part ps qs rest following more beyond (rest ++ following) refl one.1 reads others stuck no_more
 
 one_fault : (part : FormatPart) (text : List ℕ) (at to : ℕ) (kind other : FormatKind) → IsBadAt part text at kind → IsBadAt part text to other → (at ≡ to) × (kind ≡ other)
 one_fault part text at to kind other h k =

@@ -1,4 +1,5 @@
--- Words that show nothing but their surfaces and their features, one after another: what the path costs up to them changes nothing.
+-- Consecutive words that print only surfaces and features: the cost of the path up to them does not
+-- matter.
 use Rattle.std.proofs.Common.{◌≡◌, ℕ, ◌+◌, ◌<◌, List, [], ◌∷◌, ◌++◌, append-nil, length, take, get_or, refl, sym, ap, ◌∙◌, subst}
 use Rattle.std.specs.Prelude.{ℤ, pos, ◌+ℤ◌, All}
 use Rattle.std.proofs.lemmas.List.{take_more}
@@ -11,13 +12,13 @@ use Rattle.mj_model.specs.declared.word.Origin.{Origin}
 use Rattle.mj_model.specs.declared.word.Origin.TheVariants.{Known, Unknown}
 use Rattle.mj_model.specs.Tables.{Overlay}
 use Rattle.out_format.specs.Followable.{AreFollowable}
-use Rattle.out_format.specs.Formats.{Format, Piece, Byte, Shows}
+use Rattle.out_format.specs.Formats.{Format, Piece, Byte, ItemPiece}
 use Rattle.out_format.specs.Pieces.{bytes_as_pieces, pieces_in, pieces_of}
-use Rattle.out_format.specs.Plain.{HasPlainWords, HasSurfaceIn, IsPlain, IsPlainItem, ShowsAnywhere}
+use Rattle.out_format.specs.Plain.{HasPlainWords, HasSurfaceIn, IsPlain, IsPlainItem, PrintsAnywhere}
 use Rattle.out_format.specs.declared.part.Part.{Part}
-use Rattle.out_format.specs.PrintedPaths.{ShowsItem, ShowsPieces, ShowsWords, Standing, word_pieces}
+use Rattle.out_format.specs.PrintedPaths.{PrintsItem, PrintsPieces, PrintsWords, WordContext, word_pieces}
 use Rattle.out_format.proofs.FollowLemmas.{next_followable}
-use Rattle.out_format.proofs.ShownLemmas.{WordsSoFar, all_words, no_words_yet, word_more}
+use Rattle.out_format.proofs.PrintedLemmas.{WordsSoFar, all_words, no_words_yet, word_more}
 
 -- ---- which parts are plain
 
@@ -39,17 +40,18 @@ parts_plain parts i part in' here before one =
 
 -- ---- what they show
 
--- what plain pieces show of a word they show of it wherever it stands
-shown_standing : (o : Overlay) (line : List ℕ) (s : Standing) (ps : List Piece) (shown : List ℕ) → All IsPlain ps → ShowsPieces (ShowsAnywhere o line s.word) ps shown → ShowsPieces (ShowsItem o line s) ps shown
+-- the text of plain pieces of a word does not depend on the path
+shown_standing : (o : Overlay) (line : List ℕ) (s : WordContext) (ps : List Piece) (shown : List ℕ) → All IsPlain ps → PrintsPieces (PrintsAnywhere o line s.word) ps shown → PrintsPieces (PrintsItem o line s) ps shown
 shown_standing o line s [] shown plain is = is
 shown_standing o line s (Byte b ∷ ps) shown plain (more, rest, is) = (more, shown_standing o line s ps more (All-tail IsPlain (Byte b) ps plain) rest, is)
-shown_standing o line s (Shows i ∷ ps) shown plain (front, more, one, rest, is) = (front, more, one (All-head IsPlain (Shows i) ps plain) s refl, shown_standing o line s ps more (All-tail IsPlain (Shows i) ps plain) rest, is)
+shown_standing o line s (ItemPiece i ∷ ps) shown plain (front, more, one, rest, is) = (front, more, one (All-head IsPlain (ItemPiece i) ps plain) s refl, shown_standing o line s ps more (All-tail IsPlain (ItemPiece i) ps plain) rest, is)
 
 plain_pieces : (f : Format) (origin : Origin) → HasPlainWords f → All IsPlain (word_pieces f origin)
 plain_pieces f (Known dict number) plain = plain.node
 plain_pieces f (Unknown number) plain = plain.unk
 
--- what the words before the rest show was appended, and the rest may follow them
+-- the text of the words before the remaining ones was appended, and the remaining words may follow
+-- them
 pub record PlainSoFar (o : Overlay) (f : Format) (line : List ℕ) (words rest : List Word) (old mid : List ℕ) : Type 0 where
   pub right : ℕ
   pub cost : ℤ
@@ -59,7 +61,7 @@ pub record PlainSoFar (o : Overlay) (f : Format) (line : List ℕ) (words rest :
 pub no_plain_yet : (o : Overlay) (f : Format) (line : List ℕ) (words : List Word) (old : List ℕ) → AreFollowable o line 0 (pos 0) words → PlainSoFar o f line words words old old
 no_plain_yet o f line words old follow = record { right = 0; cost = pos 0; follow = follow; shown = no_words_yet o f line words old }
 
--- the next word's surface stands in the line
+-- the next word's surface lies in the line
 pub next_surface : (o : Overlay) (f : Format) (line : List ℕ) (words rest ws : List Word) (w : Word) (old mid : List ℕ) → rest ≡ w ∷ ws → PlainSoFar o f line words rest old mid → HasSurfaceIn line w
 next_surface o f line words rest ws w old mid split before =
     let next = next_followable o line rest ws w before.right before.cost split before.follow in
@@ -67,12 +69,12 @@ next_surface o f line words rest ws w old mid split before =
 
 pub plain_more : (o : Overlay) (f : Format) (line : List ℕ) (words rest ws : List Word) (w : Word) (ps : List Piece) (old mid new : List ℕ) → HasPlainWords f → rest ≡ w ∷ ws → ps ≡ word_pieces f w.origin
     → PlainSoFar o f line words rest old mid
-    → (shown : List ℕ) × ShowsPieces (ShowsAnywhere o line w) ps shown × (new ≡ mid ++ shown)
+    → (shown : List ℕ) × PrintsPieces (PrintsAnywhere o line w) ps shown × (new ≡ mid ++ shown)
     → PlainSoFar o f line words ws old new
 plain_more o f line words rest ws w ps old mid new plain split pieces before (front, is, e) =
     let now = (before.cost +ℤ o.system.connection before.right w.left) +ℤ w.cost in
     let next = next_followable o line rest ws w before.right before.cost split before.follow in
-    let standing : Standing = record { word = w; right_before = before.right; cost_so_far = now } in
+    let standing : WordContext = record { word = w; right_before = before.right; cost_so_far = now } in
     let all : All IsPlain ps = subst (All IsPlain) (sym pieces) (plain_pieces f w.origin plain) in
     record {
       right = w.right;
@@ -81,5 +83,5 @@ plain_more o f line words rest ws w ps old mid new plain split pieces before (fr
       shown = word_more o f line words rest ws w before.right before.cost now ps old mid new split refl pieces before.shown (front, shown_standing o line standing ps front all is, e);
     }
 
-pub all_plain : (o : Overlay) (f : Format) (line : List ℕ) (words rest : List Word) (old new : List ℕ) → rest ≡ [] → PlainSoFar o f line words rest old new → (shown : List ℕ) × ShowsWords o f line 0 (pos 0) words shown × (new ≡ old ++ shown)
+pub all_plain : (o : Overlay) (f : Format) (line : List ℕ) (words rest : List Word) (old new : List ℕ) → rest ≡ [] → PlainSoFar o f line words rest old new → (shown : List ℕ) × PrintsWords o f line 0 (pos 0) words shown × (new ≡ old ++ shown)
 all_plain o f line words rest old new none before = all_words o f line words rest before.right before.cost old new none before.shown

@@ -1,15 +1,16 @@
--- Words of a line each of which may follow the one before.
+-- Words of a line each of which may follow the one before it.
 use Rattle.std.specs.Prelude.{ℕ, ◌^◌, ℤ, ◌+ℤ◌, List, [], ◌∷◌}
 use Rattle.mj_model.specs.declared.word.Word.{Word}
 use Rattle.mj_model.specs.Bounds.{IsWithin}
 use Rattle.mj_model.specs.Tables.{Overlay}
-use Rattle.out_format.specs.Standings.{IsWordOf}
+use Rattle.out_format.specs.WordContexts.{IsWordOf}
 
--- a cost far within 64 bits
+-- the cost is far from overflow of 64 bits
 abbrev pub IsLow : ℤ → Type 0
 IsLow cost = IsWithin (2 ^ 40) cost
 
--- words of a line that follow a word of this right id, where the path costs this much up to there
+-- words of a line that may follow a word of right id `right`, with `cost` the cost of the path up
+-- to there
 abbrev pub AreFollowable : Overlay → List ℕ → ℕ → ℤ → List Word → Type 0
 AreFollowable o line right cost [] = Unit {0}
 AreFollowable o line right cost (w ∷ ws) =

@@ -1,16 +1,17 @@
--- The items without an index: letters and meaning are MeCab's (format.html); which texts may show an item is this project's own choice.
+-- The items except for fields: letters and meaning are MeCab's (format.html); which parts may use
+-- an item is this project's own choice.
 use Rattle.std.specs.Prelude.{ℕ, List, [], ◌∷◌, codes}
 use Rattle.mj_model.specs.declared.format_item.FormatItem.{FormatItem}
 use Rattle.mj_model.specs.declared.format_item.FormatItem.TheVariants as item
-use Rattle.out_format.specs.declared.items.ShownIn.{ShownIn}
-use Rattle.out_format.specs.declared.items.ShownIn.TheVariants.{EveryText, Words, WordsAndEnd}
+use Rattle.out_format.specs.declared.items.AllowedIn.{AllowedIn}
+use Rattle.out_format.specs.declared.items.AllowedIn.TheVariants.{EveryText, Words, WordsAndEnd}
 use Rattle.out_format.specs.Formats.{Row}
 
--- the letters behind the percent sign, the item that they spell, and the texts that may show it
-abbrev row : List ℕ → FormatItem → ShownIn → Row
+-- the letters after the percent sign, the item that they spell, and the parts that may use it
+abbrev row : List ℕ → FormatItem → AllowedIn → Row
 row letters i texts = (record { now = letters }, i, texts)
 
--- all of them
+-- all items of the table
 abbrev pub listed_items : List Row
 listed_items =
     row (codes "m") item.Surface Words

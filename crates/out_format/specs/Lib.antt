@@ -2,10 +2,12 @@ pub mod FirstItems
 pub mod Pieces
 pub mod Building
 pub mod Texts
-pub mod Standings
+pub mod WordContexts
 pub mod Followable
 pub mod PrintedPaths
 pub mod Plain
 pub mod Formats
 pub mod ItemTable
-pub mod Answers
+pub mod Results
+pub mod PrintedLines
+pub mod Segmentation

@@ -1,4 +1,4 @@
-//! Parts that are put together piece by piece.
+//! Builds the parts of a format piece by piece.
 
 ghost use Rattle.std.specs.Prelude.{◌≡◌, ◌++◌, ◌∷◌, [], IfOk, OnOk};
 ghost use Rattle.out_format.specs.Pieces.{piece_of, pieces_of};
@@ -9,27 +9,27 @@ use crate::part::Part;
 use std::alloc::{AllocError, Global};
 use std::mem;
 
-/// The parts so far, and the bytes behind the last of them.
+/// The parts so far, and the run of bytes after the last of them.
 #[derive(Drop)]
-pub struct PartsSoFar {
+pub struct PartsBuilder {
     parts: Vec<Part>,
     run: Vec<u8>,
     alloc: Global,
 }
 
-impl PartsSoFar {
-    /// No parts.
-    pub fn new(alloc: Global) -> PartsSoFar
+impl PartsBuilder {
+    /// Returns a builder without parts.
+    pub fn new(alloc: Global) -> PartsBuilder
         ensures { pieces_so_far result ≡ [] }
     {
-        PartsSoFar {
+        PartsBuilder {
             parts: Vec::new(alloc),
             run: Vec::new(alloc),
             alloc,
         }
     }
 
-    /// Adds a piece.
+    /// Appends a piece.
     pub fn push(&mut self, piece: NextPiece) -> Result<(), AllocError>
         ensures { OnOk result (pieces_so_far self.new
             ≡ pieces_so_far self.old ++ piece_of piece ∷ []) }
@@ -44,7 +44,7 @@ impl PartsSoFar {
         Ok(())
     }
 
-    /// The bytes behind the last part become a part.
+    /// Makes a part of the bytes after the last part.
     fn end_run(&mut self) -> Result<(), AllocError>
         ensures parts { OnOk result (pieces_of self.new.parts.items ≡ pieces_so_far self.old) }
         ensures run { OnOk result (self.new.run.items ≡ []) }
@@ -56,7 +56,7 @@ impl PartsSoFar {
         Ok(())
     }
 
-    /// All parts.
+    /// Returns all parts.
     pub fn finish(mut self) -> Result<Vec<Part>, AllocError>
         ensures { IfOk result (λ parts. pieces_of parts.items ≡ pieces_so_far self) }
     {

@@ -3,7 +3,7 @@
 ghost use Rattle.std.specs.Prelude.{◌≡◌};
 ghost use Rattle.out_format.specs.Formats.{byte_of_escape};
 
-/// The byte that a character behind a backslash stands for. (MeCab)
+/// Returns the byte of the escape `\character`, or `None` if there is no such escape. (MeCab)
 pub fn escaped_byte(character: u8) -> Option<u8>
     ensures { result ≡ byte_of_escape character }
 {

@@ -1,30 +1,30 @@
-//! The piece that a format's text begins with: a byte, an escape or an item.
+//! Reads the piece at the start of a format's text: a byte, an escape or an item.
 
 ghost use Rattle.std.specs.Prelude.{◌≡◌, ◌<◌, ◌∷◌, length};
 ghost use Rattle.out_format.specs.Formats.{bad_item as bad_item_of};
-ghost use Rattle.out_format.specs.Answers.{IsFirstPiece};
+ghost use Rattle.out_format.specs.Results.{IsFirstPiece};
 
 use crate::bytes::first_byte;
 use crate::escapes::escaped_byte;
 use crate::first_item::first_item;
-use crate::items::ShownIn;
+use crate::items::AllowedIn;
 use mj_model::{FormatItem, FormatKind, FormatPart};
 
-/// What a format says at one place.
+/// A piece of a format: a byte that is printed unchanged, or an item.
 #[derive(Clone, Copy)]
 pub enum NextPiece {
     Byte(u8),
     Item(FormatItem),
 }
 
-/// A piece, and what follows it.
+/// A piece, and the text after it.
 #[derive(Clone, Copy)]
 pub struct FirstPiece<'a> {
     pub piece: NextPiece,
     pub rest: &'a [u8],
 }
 
-/// The piece that a part's text begins with, or why it begins with none.
+/// Returns the piece at the start of `text`, or the reason why no piece of `part` starts there.
 pub fn first_piece(text: &[u8], part: FormatPart) -> Result<FirstPiece<'_>, FormatKind>
     requires { 0 < length text.now }
     ensures { IsFirstPiece part text.now result }
@@ -44,11 +44,12 @@ pub fn first_piece(text: &[u8], part: FormatPart) -> Result<FirstPiece<'_>, Form
     }
 }
 
-/// The escape behind a backslash, which may stand in any part.
-fn escape_of_part(behind: &[u8], part: FormatPart) -> Result<FirstPiece<'_>, FormatKind>
-    ensures { IsFirstPiece part (92 ∷ behind.now) result }
+/// Returns the byte of an escape, which any part may contain. `following` is the text after the
+/// backslash.
+fn escape_of_part(following: &[u8], part: FormatPart) -> Result<FirstPiece<'_>, FormatKind>
+    ensures { IsFirstPiece part (92 ∷ following.now) result }
 {
-    let Some((character, rest)) = first_byte(behind) else {
+    let Some((character, rest)) = first_byte(following) else {
         return Err(FormatKind::BadEscape);
     };
     match escaped_byte(character) {
@@ -60,24 +61,25 @@ fn escape_of_part(behind: &[u8], part: FormatPart) -> Result<FirstPiece<'_>, For
     }
 }
 
-/// The item of a part behind a percent sign.
-fn item_of_part(behind: &[u8], part: FormatPart) -> Result<FirstPiece<'_>, FormatKind>
-    ensures { IsFirstPiece part (37 ∷ behind.now) result }
+/// Returns the item at the start of a text of `part`. `following` is the text after the percent sign.
+fn item_of_part(following: &[u8], part: FormatPart) -> Result<FirstPiece<'_>, FormatKind>
+    ensures { IsFirstPiece part (37 ∷ following.now) result }
 {
-    match first_item(part, behind) {
+    match first_item(part, following) {
         Some(first) => Ok(FirstPiece {
             piece: NextPiece::Item(first.item),
             rest: first.rest,
         }),
-        None => Err(bad_item(part, behind)),
+        None => Err(bad_item(part, following)),
     }
 }
 
-/// What is wrong where no item of the part follows a percent sign.
-fn bad_item(part: FormatPart, behind: &[u8]) -> FormatKind
-    ensures { result ≡ bad_item_of part behind.now }
+/// Returns the error if no item of `part` follows a percent sign: the index is invalid after `%f`,
+/// otherwise the item.
+fn bad_item(part: FormatPart, following: &[u8]) -> FormatKind
+    ensures { result ≡ bad_item_of part following.now }
 {
-    if behind.first() == Some(&b'f') && ShownIn::Words.includes(part) {
+    if following.first() == Some(&b'f') && AllowedIn::Words.includes(part) {
         FormatKind::BadIndex
     } else {
         FormatKind::BadItem

@@ -1,4 +1,4 @@
-//! Formats, read once.
+//! Formats, parsed once.
 
 ghost use Rattle.std.specs.Prelude.{◌≡◌, IsTrue, IfOk, IfErr, map};
 ghost use Rattle.out_format.specs.Formats.{IsFormatRefusal, ReadsFormat};
@@ -7,7 +7,7 @@ ghost use Rattle.out_format.specs.Pieces.{piece_of, pieces_of};
 ghost use Rattle.out_format.specs.Plain.{HasPlainWords};
 ghost use Rattle.out_format.specs.Texts.{all_alike, texts_of, default_texts, wakati_texts};
 
-use crate::building::PartsSoFar;
+use crate::building::PartsBuilder;
 use crate::first_piece::NextPiece;
 use crate::parsing::parse_part;
 use crate::part::Part;
@@ -18,7 +18,7 @@ use std::marker::Model;
 
 /// How words and lines are printed. (MeCab, format.html)
 ///
-/// The text of each part is read once, into runs of bytes and items.
+/// The text of each part is parsed once, into runs of bytes and items.
 #[derive(Debug, Drop)]
 pub struct Format {
     pub(crate) node: Vec<Part>,
@@ -43,9 +43,11 @@ impl Model for Format {
 }
 
 impl Format {
-    /// Reads the texts of the four parts; without one for unknown words, that of the known ones serves. The parts are looked at
-    /// in the order of `FormatPart`, and a fault tells the first byte of a part that doesn't read. (Items and escapes are
-    /// MeCab's; what is refused is this project's own choice)
+    /// Parses the texts of the four parts. Unknown words use `node` if `unk` is `None`.
+    ///
+    /// The parts are parsed in the order of `FormatPart`. An error names the part and the offset,
+    /// in bytes, of the first invalid piece. (Items and escapes are MeCab's; what is rejected is
+    /// this project's own choice)
     pub fn parse(
         alloc: Global,
         node: &str,
@@ -54,7 +56,7 @@ impl Format {
         eos: &str,
     ) -> Result<Format, FormatFault>
         ensures accepted { IfOk result (ReadsFormat (texts_of node.now unk.entry bos.now eos.now)) }
-        ensures refused { IfErr result (IsFormatRefusal
+        ensures rejected { IfErr result (IsFormatRefusal
             (texts_of node.now unk.entry bos.now eos.now)) }
     {
         let node_parts = parse_part(alloc, node, FormatPart::Node)?;
@@ -69,7 +71,8 @@ impl Format {
         })
     }
 
-    /// A line for each word, with its surface, a tab and its feature, and a line EOS. (MeCab)
+    /// Returns the default format: a line of surface, tab and feature for each word, and a line
+    /// EOS. (MeCab)
     pub fn default_of(alloc: Global) -> Result<Format, AllocError>
         ensures { IfOk result (ReadsFormat default_texts) }
     {
@@ -88,7 +91,7 @@ impl Format {
         for_all_words(alloc, &line, &end)
     }
 
-    /// The surface of each word and a blank behind it, and the end of the line. (MeCab)
+    /// Returns the wakati format: each surface and a blank after it, and a line feed. (MeCab)
     pub fn wakati(alloc: Global) -> Result<Format, AllocError>
         ensures { IfOk result (ReadsFormat wakati_texts) }
     {
@@ -98,7 +101,7 @@ impl Format {
 }
 
 impl Format {
-    /// The part for a word of this origin.
+    /// Returns the part for a word of this origin.
     pub(crate) fn word_parts(&self, origin: Origin) -> &[Part]
         ensures { pieces_of result.now ≡ word_pieces self.now origin }
     {
@@ -108,21 +111,21 @@ impl Format {
         }
     }
 
-    /// Whether its words show nothing but their surfaces and their features.
+    /// Returns whether the words print nothing but their surfaces and features.
     pub(crate) fn has_plain_words(&self) -> bool
         ensures { IsTrue result → HasPlainWords self.now }
     {
         are_plain(&self.node) && are_plain(&self.unk)
     }
 
-    /// The part before the first word.
+    /// Returns the part before the first word.
     pub(crate) fn bos_parts(&self) -> &[Part]
         ensures { pieces_of result.now ≡ self.now.bos }
     {
         &self.bos
     }
 
-    /// The part behind the last word.
+    /// Returns the part after the last word.
     pub(crate) fn eos_parts(&self) -> &[Part]
         ensures { pieces_of result.now ≡ self.now.eos }
     {
@@ -130,7 +133,7 @@ impl Format {
     }
 }
 
-/// A format that prints known and unknown words alike, and nothing before the first.
+/// Returns a format that prints known and unknown words alike, and nothing before the first word.
 fn for_all_words(alloc: Global, word: &[NextPiece], end: &[NextPiece]) -> Result<Format, AllocError>
     ensures { IfOk result (λ format. format
         ≡ all_alike (map piece_of word.now) (map piece_of end.now)) }
@@ -143,11 +146,11 @@ fn for_all_words(alloc: Global, word: &[NextPiece], end: &[NextPiece]) -> Result
     })
 }
 
-/// The parts of pieces.
+/// Joins `pieces` into parts.
 fn parts_of(alloc: Global, pieces: &[NextPiece]) -> Result<Vec<Part>, AllocError>
     ensures { IfOk result (λ parts. pieces_of parts.items ≡ map piece_of pieces.now) }
 {
-    let mut parts = PartsSoFar::new(alloc);
+    let mut parts = PartsBuilder::new(alloc);
     for piece in pieces {
         parts.push(*piece)?;
     }

@@ -1,24 +1,25 @@
-//! The index of a field, between brackets.
+//! Reads the index of a field, between brackets.
 
 ghost use Rattle.std.specs.Prelude.{◌≡◌, ◌∷◌, ◌≤◌, true, length};
 ghost use Rattle.std.specs.Char.{is_ascii_digit};
 ghost use Rattle.std.specs.List.{prefix_len};
 ghost use Rattle.std.specs.Str.{all_ascii_digits};
-ghost use Rattle.out_format.specs.Answers.{IsFirstIndex, index_of};
+ghost use Rattle.out_format.specs.Results.{IsFirstIndex, index_of};
 
 use crate::bytes::first_byte;
 
-/// The most digits of an index. (This project's own choice)
+/// The greatest number of digits of an index. (This project's own choice)
 const DIGITS_MAX: usize = 5;
 
-/// A number between brackets, and what follows it.
+/// An index, and the text after its closing bracket.
 #[derive(Clone, Copy)]
 pub struct Index<'a> {
     pub number: u16,
     pub rest: &'a [u8],
 }
 
-/// The index that a text begins with: one to five digits between brackets, of value at most 65,535.
+/// Returns the index at the start of `text`: one to five digits between brackets, of value at most
+/// 65,535.
 pub fn first_index(text: &[u8]) -> Option<Index<'_>>
     ensures { IsFirstIndex text.now result }
 {
@@ -30,7 +31,7 @@ pub fn first_index(text: &[u8]) -> Option<Index<'_>>
     }
 }
 
-/// The index behind an opening bracket.
+/// Returns the index whose text after the opening bracket is `inside`.
 fn index_inside(inside: &[u8]) -> Option<Index<'_>>
     ensures { IsFirstIndex (0x5b ∷ inside.now) result }
 {
@@ -48,7 +49,7 @@ fn index_inside(inside: &[u8]) -> Option<Index<'_>>
     }
 }
 
-/// How many digits a text begins with.
+/// Returns the number of digits at the start of `text`.
 fn digits_before(text: &[u8]) -> usize
     ensures count { result ≡ prefix_len is_ascii_digit text.now }
     ensures within { result ≤ length text.now }
@@ -61,7 +62,7 @@ fn digits_before(text: &[u8]) -> usize
     text.len()
 }
 
-/// The value of digits, if it is at most 65,535.
+/// Returns the value of `digits`, or `None` if it is over 65,535.
 fn index_value(digits: &[u8]) -> Option<u16>
     requires { all_ascii_digits digits.now ≡ true }
     ensures { result ≡ index_of digits.now }

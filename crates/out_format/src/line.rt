@@ -1,25 +1,25 @@
-//! A line, and what the items show of it.
+//! Prints the items of a line as a whole.
 
 ghost use Rattle.std.specs.Prelude.{◌≡◌};
 
 use crate::appending::{append_bytes, append_cost, append_count};
-use crate::shows_items::ShowsItems;
+use crate::item_printer::ItemPrinter;
 use mj_model::FormatItem;
 use std::alloc::AllocError;
 
-/// A line, and what its path costs up to a place: 0 before the first word.
+/// A line, and the cost of its path so far: 0 before the first word.
 #[derive(Clone, Copy)]
 pub struct Line<'a> {
     pub text: &'a str,
     pub cost: i64,
 }
 
-impl<'a> ShowsItems for Line<'a> {
+impl<'a> ItemPrinter for Line<'a> {
     ghost use Rattle.out_format.specs.PrintedPaths.{line_item};
 
-    ghost can_show = { λ line. Unit {0} };
+    ghost is_printable = { λ line. Unit {0} };
 
-    ghost shows = { λ line item shown. shown ≡ line_item line.text.now line.cost item };
+    ghost prints = { λ line item shown. shown ≡ line_item line.text.now line.cost item };
 
     fn append_item(&self, item: FormatItem, out: &mut Vec<u8>) -> Result<(), AllocError> {
         match item {

@@ -1,8 +1,8 @@
-//! The parts that a format's text is read into.
+//! The parts of a parsed format text.
 
 use mj_model::FormatItem;
 
-/// A run of bytes that are printed as they are, or an item.
+/// A run of bytes that are printed unchanged, or an item.
 #[derive(Debug, Drop)]
 pub enum Part {
     Bytes(Vec<u8>),

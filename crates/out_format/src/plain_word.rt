@@ -1,17 +1,17 @@
-//! A word of which nothing but its surface and its feature is shown, and what the items show of it.
+//! Prints the items of a word in a format that uses only surfaces and features.
 
 ghost use Rattle.std.specs.Prelude.{IsTrue, All};
 ghost use Rattle.out_format.specs.Pieces.{pieces_in, pieces_of};
 ghost use Rattle.out_format.specs.Plain.{IsPlain};
 
 use crate::appending::append_bytes;
+use crate::item_printer::ItemPrinter;
 use crate::part::Part;
-use crate::shows_items::ShowsItems;
 use mj_model::{FormatItem, Word};
 use std::alloc::AllocError;
 use word_lookup::Dictionaries;
 
-/// A word of a line. Neither what the path costs up to it nor the fields of its feature are asked for.
+/// A word of a line. Neither the cost of the path nor the fields of the feature are needed.
 #[derive(Clone, Copy)]
 pub struct PlainWord<'a, 'w> {
     pub dictionaries: &'a Dictionaries<'a>,
@@ -19,13 +19,13 @@ pub struct PlainWord<'a, 'w> {
     pub word: &'w Word,
 }
 
-impl<'a, 'w> ShowsItems for PlainWord<'a, 'w> {
-    ghost use Rattle.out_format.specs.Plain.{HasSurfaceIn, ShowsAnywhere};
+impl<'a, 'w> ItemPrinter for PlainWord<'a, 'w> {
+    ghost use Rattle.out_format.specs.Plain.{HasSurfaceIn, PrintsAnywhere};
     ghost use Rattle.word_lookup.specs.Overlays.{overlay_of};
 
-    ghost can_show = { λ w. HasSurfaceIn w.text.now w.word.now };
+    ghost is_printable = { λ w. HasSurfaceIn w.text.now w.word.now };
 
-    ghost shows = { λ w. ShowsAnywhere (overlay_of w.dictionaries.now) w.text.now w.word.now };
+    ghost prints = { λ w. PrintsAnywhere (overlay_of w.dictionaries.now) w.text.now w.word.now };
 
     fn append_item(&self, item: FormatItem, out: &mut Vec<u8>) -> Result<(), AllocError> {
         let word = self.word;
@@ -37,7 +37,7 @@ impl<'a, 'w> ShowsItems for PlainWord<'a, 'w> {
     }
 }
 
-/// Whether parts show nothing of a word but its surface and its feature.
+/// Returns whether `parts` use no items but the surface and the feature.
 pub fn are_plain(parts: &[Part]) -> bool
     ensures { IsTrue result → All IsPlain (pieces_of parts.now) }
 {
@@ -49,7 +49,7 @@ pub fn are_plain(parts: &[Part]) -> bool
     true
 }
 
-/// The same of one part.
+/// Returns whether `part` is a run of bytes, a surface or a feature.
 fn is_plain(part: &Part) -> bool
     ensures { IsTrue result → All IsPlain (pieces_in part.now) }
 {

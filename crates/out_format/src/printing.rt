@@ -1,28 +1,29 @@
-//! Paths printed in a format.
+//! Prints paths in a format.
 
 ghost use Rattle.std.specs.Prelude.{◌≡◌, ◌≤◌, length, take, vec_len, pos, OnOk, OnErr, IsTrue};
 ghost use Rattle.mj_model.specs.declared.limits.TheConstants.{SENTENCE_MAX};
 ghost use Rattle.mj_model.specs.Lists.{GrowsBy};
-ghost use Rattle.paths.specs.BestOver.{IsPathOver, cost_over};
+ghost use Rattle.mj_model.specs.BestOver.{IsPathOver, cost_over};
 ghost use Rattle.mj_model.specs.Connection.{is_pair};
-ghost use Rattle.out_format.specs.PrintedPaths.{ShowsPath, ShowsWords, cost_with_word};
+ghost use Rattle.out_format.specs.PrintedPaths.{PrintsPath, PrintsWords, cost_with_word};
 ghost use Rattle.out_format.specs.Followable.{AreFollowable, IsLow};
 ghost use Rattle.out_format.specs.Plain.{HasPlainWords};
 ghost use Rattle.word_lookup.specs.Overlays.{overlay_of};
 
 use crate::format::Format;
+use crate::item_printer::append_parts;
 use crate::last_token::LastToken;
 use crate::line::Line;
 use crate::plain_word::PlainWord;
-use crate::shows_items::append_parts;
 use crate::word_in_path::WordInPath;
 use mj_model::Word;
-use paths::{ListedWords, Path, WordsInTurn};
+use mj_model::paths::{Path, StoredWords, WordStream};
 use std::alloc::{AllocError, Global};
 use word_lookup::Dictionaries;
 
-/// Appends the text of a path of a text of at most `SENTENCE_MAX` bytes. No memory is taken but by `out` as it grows, and on an
-/// error `out` is as before.
+/// Appends the text of `path`, a path of `text`. `text` has at most `SENTENCE_MAX` bytes.
+///
+/// Only `out` allocates, as it grows. On an error `out` is unchanged.
 pub fn print(
     _alloc: Global,
     format: &Format,
@@ -34,16 +35,19 @@ pub fn print(
     requires short { length text.now ≤ SENTENCE_MAX }
     requires path { IsPathOver (overlay_of dictionaries.now) text.now path.now.words.items }
     requires total { path.now.total ≡ cost_over (overlay_of dictionaries.now) path.now.words.items }
-    ensures appended { OnOk result (GrowsBy (ShowsPath (overlay_of dictionaries.now) format.now
+    ensures appended { OnOk result (GrowsBy (PrintsPath (overlay_of dictionaries.now) format.now
         text.now path.now.words.items) out.old.items out.new.items) }
-    ensures kept { OnErr result (out.new.items ≡ out.old.items) }
+    ensures unchanged { OnErr result (out.new.items ≡ out.old.items) }
 {
-    let words = ListedWords { left: &path.words };
+    let words = StoredWords { left: &path.words };
     print_words(format, dictionaries, text, words, path.total, out)
 }
 
-/// The same of a path whose words are read one after another, and which costs `total`.
-pub fn print_words<W: WordsInTurn + Drop>(
+/// Appends the text of a path of `text` whose words are read from `words` one by one. `total` is
+/// the cost of the path.
+///
+/// `text` has at most `SENTENCE_MAX` bytes. On an error `out` is unchanged.
+pub fn print_words<W: WordStream + Drop>(
     format: &Format,
     dictionaries: &Dictionaries<'_>,
     text: &str,
@@ -54,9 +58,9 @@ pub fn print_words<W: WordsInTurn + Drop>(
     requires short { length text.now ≤ SENTENCE_MAX }
     requires path { IsPathOver (overlay_of dictionaries.now) text.now (W.left words) }
     requires total { total ≡ cost_over (overlay_of dictionaries.now) (W.left words) }
-    ensures appended { OnOk result (GrowsBy (ShowsPath (overlay_of dictionaries.now) format.now
+    ensures appended { OnOk result (GrowsBy (PrintsPath (overlay_of dictionaries.now) format.now
         text.now (W.left words)) out.old.items out.new.items) }
-    ensures kept { OnErr result (out.new.items ≡ out.old.items) }
+    ensures unchanged { OnErr result (out.new.items ≡ out.old.items) }
 {
     let count = out.len();
     let appended = append_path(format, dictionaries, text, words, total, out);
@@ -66,8 +70,8 @@ pub fn print_words<W: WordsInTurn + Drop>(
     appended
 }
 
-/// Appends the parts before the first word, of the words, and behind the last one.
-fn append_path<'a, W: WordsInTurn + Drop>(
+/// Appends the part before the first word, the words, and the part after the last word.
+fn append_path<'a, W: WordStream + Drop>(
     format: &Format,
     dictionaries: &'a Dictionaries<'a>,
     text: &'a str,
@@ -78,17 +82,18 @@ fn append_path<'a, W: WordsInTurn + Drop>(
     requires words { AreFollowable (overlay_of dictionaries.now) text.now 0 (pos 0)
         (W.left words) }
     requires total { total ≡ cost_over (overlay_of dictionaries.now) (W.left words) }
-    ensures appended { OnOk result (GrowsBy (ShowsPath (overlay_of dictionaries.now) format.now
+    ensures appended { OnOk result (GrowsBy (PrintsPath (overlay_of dictionaries.now) format.now
         text.now (W.left words)) out.old.items out.new.items) }
-    ensures kept { take (vec_len out.old) out.new.items ≡ out.old.items }
+    ensures unchanged { take (vec_len out.old) out.new.items ≡ out.old.items }
 {
     append_parts(&Line { text, cost: 0 }, format.bos_parts(), out)?;
     append_all_words(format, dictionaries, text, words, out)?;
     append_parts(&Line { text, cost: total }, format.eos_parts(), out)
 }
 
-/// Appends the parts of words, of which the first follows BOS. Where nothing but surfaces and features is shown, nothing else is asked for.
-fn append_all_words<'a, W: WordsInTurn + Drop>(
+/// Appends the text of `words`, the first of which follows BOS. Skips costs and fields if the
+/// format doesn't use them.
+fn append_all_words<'a, W: WordStream + Drop>(
     format: &Format,
     dictionaries: &'a Dictionaries<'a>,
     text: &'a str,
@@ -96,9 +101,9 @@ fn append_all_words<'a, W: WordsInTurn + Drop>(
     out: &mut Vec<u8>,
 ) -> Result<(), AllocError>
     requires { AreFollowable (overlay_of dictionaries.now) text.now 0 (pos 0) (W.left words) }
-    ensures appended { OnOk result (GrowsBy (ShowsWords (overlay_of dictionaries.now) format.now
+    ensures appended { OnOk result (GrowsBy (PrintsWords (overlay_of dictionaries.now) format.now
         text.now 0 (pos 0) (W.left words)) out.old.items out.new.items) }
-    ensures kept { take (vec_len out.old) out.new.items ≡ out.old.items }
+    ensures unchanged { take (vec_len out.old) out.new.items ≡ out.old.items }
 {
     if format.has_plain_words() {
         append_plain_words(format, dictionaries, text, words, out)
@@ -107,8 +112,8 @@ fn append_all_words<'a, W: WordsInTurn + Drop>(
     }
 }
 
-/// The same in a format that shows nothing else of words.
-fn append_plain_words<'a, W: WordsInTurn + Drop>(
+/// Appends the text of `words` in a format that uses only surfaces and features.
+fn append_plain_words<'a, W: WordStream + Drop>(
     format: &Format,
     dictionaries: &'a Dictionaries<'a>,
     text: &'a str,
@@ -117,9 +122,9 @@ fn append_plain_words<'a, W: WordsInTurn + Drop>(
 ) -> Result<(), AllocError>
     requires words { AreFollowable (overlay_of dictionaries.now) text.now 0 (pos 0) (W.left words) }
     requires plain { HasPlainWords format.now }
-    ensures appended { OnOk result (GrowsBy (ShowsWords (overlay_of dictionaries.now) format.now
+    ensures appended { OnOk result (GrowsBy (PrintsWords (overlay_of dictionaries.now) format.now
         text.now 0 (pos 0) (W.left words)) out.old.items out.new.items) }
-    ensures kept { take (vec_len out.old) out.new.items ≡ out.old.items }
+    ensures unchanged { take (vec_len out.old) out.new.items ≡ out.old.items }
 {
     let mut words = words;
     while let Some(word) = words.next_word() {
@@ -133,8 +138,8 @@ fn append_plain_words<'a, W: WordsInTurn + Drop>(
     Ok(())
 }
 
-/// The same in any format.
-fn append_words<'a, W: WordsInTurn + Drop>(
+/// Appends the text of `words` in any format.
+fn append_words<'a, W: WordStream + Drop>(
     format: &Format,
     dictionaries: &'a Dictionaries<'a>,
     text: &'a str,
@@ -142,9 +147,9 @@ fn append_words<'a, W: WordsInTurn + Drop>(
     out: &mut Vec<u8>,
 ) -> Result<(), AllocError>
     requires { AreFollowable (overlay_of dictionaries.now) text.now 0 (pos 0) (W.left words) }
-    ensures appended { OnOk result (GrowsBy (ShowsWords (overlay_of dictionaries.now) format.now
+    ensures appended { OnOk result (GrowsBy (PrintsWords (overlay_of dictionaries.now) format.now
         text.now 0 (pos 0) (W.left words)) out.old.items out.new.items) }
-    ensures kept { take (vec_len out.old) out.new.items ≡ out.old.items }
+    ensures unchanged { take (vec_len out.old) out.new.items ≡ out.old.items }
 {
     let mut words = words;
     let mut right_before: u16 = 0;
@@ -153,7 +158,7 @@ fn append_words<'a, W: WordsInTurn + Drop>(
     while let Some(word) = words.next_word() {
         cost_so_far = cost_with(dictionaries, right_before, cost_so_far, &word);
         let parts = format.word_parts(word.origin);
-        last.turn_to(dictionaries, &word, parts);
+        last.switch_to(dictionaries, &word, parts);
         let standing = WordInPath {
             dictionaries,
             line: Line {
@@ -170,7 +175,8 @@ fn append_words<'a, W: WordsInTurn + Drop>(
     Ok(())
 }
 
-/// What a path costs with a further word.
+/// Returns the cost of a path extended by `word`: `cost_before`, the connection cost and the word
+/// cost. `right_before` is the right id of the last word of the path.
 pub fn cost_with(
     dictionaries: &Dictionaries<'_>,
     right_before: u16,

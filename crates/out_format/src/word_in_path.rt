@@ -1,38 +1,41 @@
-//! A word in its path, and what the items show of it.
+//! Prints the items of a word in its path.
 
 ghost use Rattle.std.specs.Prelude.{◌≡◌, ◌++◌, ◌≤◌, length, take, drop, vec_len, OnOk, IsTrue};
-ghost use Rattle.paths.specs.Laws.{between};
+ghost use Rattle.mj_model.specs.Laws.{between};
 ghost use Rattle.mj_model.specs.Printed.{feature_of};
-ghost use Rattle.out_format.specs.Answers.{GrowsByField};
+ghost use Rattle.out_format.specs.Results.{GrowsByField};
 ghost use Rattle.out_format.specs.PrintedPaths.{connection_before, cost_here, first_category as category_of_first, unknown_digit};
-ghost use Rattle.paths.specs.Words.{is_place};
-ghost use Rattle.out_format.specs.Standings.{CanStand, chars_of, overlay_in, standing_of};
+ghost use Rattle.mj_model.specs.Words.{is_place};
+ghost use Rattle.out_format.specs.WordContexts.{IsWordInPath, chars_of, overlay_in, word_context};
 
-use crate::appending::{append_bytes, append_cost, append_count, append_shown_field};
+use crate::appending::{append_bytes, append_cost, append_count, append_printed_field};
+use crate::item_printer::ItemPrinter;
 use crate::line::Line;
-use crate::shows_items::ShowsItems;
-use lex_source::SoughtFields;
+use lex_source::FieldCache;
 use mj_model::{FormatItem, Origin, Word};
 use std::alloc::AllocError;
 use word_lookup::Dictionaries;
 
-/// A word of a line, which has the cost of the path up to and with it, the right id of the word before it, and the fields of its feature.
+/// A word of a line in its path.
+///
+/// `line.cost` is the cost of the path up to and including the word. `right_before` is the right id
+/// of the word before it, and `fields` is its feature.
 #[derive(Clone, Copy)]
 pub struct WordInPath<'a, 'f> {
     pub dictionaries: &'a Dictionaries<'a>,
     pub line: Line<'a>,
     pub word: &'f Word,
     pub right_before: u16,
-    pub fields: &'f SoughtFields<'a>,
+    pub fields: &'f FieldCache<'a>,
 }
 
-impl<'a, 'f> ShowsItems for WordInPath<'a, 'f> {
-    ghost use Rattle.out_format.specs.PrintedPaths.{ShowsItem};
-    ghost use Rattle.out_format.specs.Standings.{CanStand, overlay_in, standing_of};
+impl<'a, 'f> ItemPrinter for WordInPath<'a, 'f> {
+    ghost use Rattle.out_format.specs.PrintedPaths.{PrintsItem};
+    ghost use Rattle.out_format.specs.WordContexts.{IsWordInPath, overlay_in, word_context};
 
-    ghost can_show = { CanStand };
+    ghost is_printable = { IsWordInPath };
 
-    ghost shows = { λ w. ShowsItem (overlay_in w) w.line.text.now (standing_of w) };
+    ghost prints = { λ w. PrintsItem (overlay_in w) w.line.text.now (word_context w) };
 
     fn append_item(&self, item: FormatItem, out: &mut Vec<u8>) -> Result<(), AllocError> {
         let word = self.word;
@@ -59,55 +62,56 @@ impl<'a, 'f> ShowsItems for WordInPath<'a, 'f> {
 }
 
 impl<'a, 'f> WordInPath<'a, 'f> {
-    /// Appends the bytes of the line from one place to another.
+    /// Appends the bytes of the line from offset `from` to offset `to`.
     fn append_between(&self, from: usize, to: usize, out: &mut Vec<u8>) -> Result<(), AllocError>
         requires forward { from ≤ to }
         requires within { to ≤ length self.now.line.text.now }
         ensures appended { OnOk result (out.new.items ≡ out.old.items
             ++ between self.now.line.text.now from to) }
-        ensures kept { take (vec_len out.old) out.new.items ≡ out.old.items }
+        ensures unchanged { take (vec_len out.old) out.new.items ≡ out.old.items }
     {
         append_bytes(&self.line.text.as_bytes()[from..to], out)
     }
 
+    /// Returns the feature of the word.
     fn feature(&self) -> &str
-        requires { CanStand self.now }
+        requires { IsWordInPath self.now }
         ensures { result.now ≡ feature_of (overlay_in self.now) self.now.word.now.origin }
     {
         self.fields.text()
     }
 
-    /// Appends what is shown of field `n` of the feature.
+    /// Appends field `n` of the feature, or nothing if it is missing or starts with `*`.
     fn append_field(&self, n: u16, out: &mut Vec<u8>) -> Result<(), AllocError>
-        requires { CanStand self.now }
+        requires { IsWordInPath self.now }
         ensures appended { OnOk result (GrowsByField
             (feature_of (overlay_in self.now) self.now.word.now.origin) n
             out.old.items out.new.items) }
-        ensures kept { take (vec_len out.old) out.new.items ≡ out.old.items }
+        ensures unchanged { take (vec_len out.old) out.new.items ≡ out.old.items }
     {
-        append_shown_field(self.fields, n, out)
+        append_printed_field(self.fields, n, out)
     }
 
-    /// The cost of the connection with the word before.
+    /// Returns the cost of the connection with the word before.
     fn connection_cost(&self) -> i64
-        requires { CanStand self.now }
-        ensures { result ≡ connection_before (overlay_in self.now) (standing_of self.now) }
+        requires { IsWordInPath self.now }
+        ensures { result ≡ connection_before (overlay_in self.now) (word_context self.now) }
     {
         i64::from(self.dictionaries.cost(self.right_before, self.word.left))
     }
 
-    /// The connection cost and the word cost.
+    /// Returns the sum of the connection cost and the word cost.
     fn cost_here(&self) -> i64
-        requires { CanStand self.now }
-        ensures { result ≡ cost_here (overlay_in self.now) (standing_of self.now) }
+        requires { IsWordInPath self.now }
+        ensures { result ≡ cost_here (overlay_in self.now) (word_context self.now) }
     {
         let connection = self.dictionaries.cost(self.right_before, self.word.left);
         i64::from(connection) + i64::from(self.word.cost)
     }
 
-    /// The number of the first category of the surface's first character.
+    /// Returns the number of the first category of the surface's first character.
     fn first_category(&self) -> usize
-        requires { CanStand self.now }
+        requires { IsWordInPath self.now }
         ensures { result ≡ category_of_first (overlay_in self.now) (chars_of self.now) }
     {
         match text_from(self.line.text, self.word.start).chars().next() {
@@ -117,7 +121,7 @@ impl<'a, 'f> WordInPath<'a, 'f> {
     }
 }
 
-/// The rest of a text from a place on.
+/// Returns the suffix of `text` from the byte offset `place`.
 fn text_from(text: &str, place: usize) -> &str
     requires { IsTrue (is_place text.now place) }
     ensures { result.now ≡ drop place text.now }
@@ -125,7 +129,7 @@ fn text_from(text: &str, place: usize) -> &str
     &text[place..]
 }
 
-/// 0 for a known word, 1 for an unknown one.
+/// Returns `0` for a known word, `1` for an unknown one.
 fn unknown_mark(origin: Origin) -> &'static [u8]
     ensures { result.now ≡ unknown_digit origin }
 {

@@ -1,5 +1,6 @@
-//! Tests of the programs' libraries: command lines, files, compilations, and what is told. Nothing else stands here: a crate with tests is
-//! proved once with them and once without.
+//! Tests of the programs' libraries: command lines, files, compilations, and what is printed.
+//!
+//! The crate has only tests, because a crate with tests is proved twice: with them and without.
 #![tactic(auto)]
 
 #[cfg(test)]

@@ -1,16 +1,17 @@
-//! Tests, by the crate whose calls they ask.
+//! Tests, grouped by the crate that they test.
 
 mod of_command_lines;
-mod of_dictc_work;
-mod of_jseg_work;
+mod of_dictc_lib;
+mod of_jseg_lib;
 mod of_programs;
+mod texts;
 
 use std::string::String;
 use std::test::Fail;
 use std::{fs, io, process};
-use test_words::joined;
+use test_support::text::joined;
 
-/// A new directory of this test's own.
+/// Creates a directory for the test `test` alone, and returns its path.
 pub(crate) fn new_directory(rt: &HostRuntime, test: &str) -> io::Result<String> {
     let id = process::id(rt.process());
     let dir = format!(in rt.alloc(); "/tmp/program_tests_{test}_{id}")?;
@@ -18,24 +19,24 @@ pub(crate) fn new_directory(rt: &HostRuntime, test: &str) -> io::Result<String> 
     Ok(dir)
 }
 
-/// The path of a name in a directory.
+/// Returns the path of `name` in the directory `dir`.
 pub(crate) fn in_directory(rt: &HostRuntime, dir: &str, name: &str) -> io::Result<String> {
     Ok(joined(rt.alloc(), &[dir, "/", name])?)
 }
 
-/// Writes a file of a directory.
+/// Writes the file `name` in the directory `dir`.
 pub(crate) fn write_in(rt: &HostRuntime, dir: &str, name: &str, bytes: &[u8]) -> io::Result<()> {
     let path = in_directory(rt, dir, name)?;
     fs::write(rt, path.as_str(), bytes)
 }
 
-/// Makes a folder of a directory.
+/// Creates the folder `name` in the directory `dir`.
 pub(crate) fn create_in(rt: &HostRuntime, dir: &str, name: &str) -> io::Result<()> {
     let path = in_directory(rt, dir, name)?;
     fs::create_dir(rt, path.as_str())
 }
 
-/// The name of the first row that doesn't hold in a directory.
+/// Returns the label of the first test case that doesn't hold in the directory `dir`.
 fn first_wrong<R, F: Fn(&HostRuntime, &str, &R) -> Result<bool, Fail> + Drop>(
     rt: &HostRuntime,
     dir: &str,
@@ -52,13 +53,16 @@ fn first_wrong<R, F: Fn(&HostRuntime, &str, &R) -> Result<bool, Fail> + Drop>(
     Ok(None)
 }
 
-/// Makes no files.
+/// Creates no files.
 pub(crate) fn no_files(_rt: &HostRuntime, _dir: &str) -> Result<(), Fail> {
     Ok(())
 }
 
-/// Asks that rows, which stand behind their names, hold in a new directory in which files are made. The directory is gone then. The test fails with
-/// the name of the first row that doesn't.
+/// Checks test cases in a new directory after `make` has created its files, then removes the
+/// directory.
+///
+/// Each item of `rows` is a label and a test case. The test fails with the label of the first test
+/// case that doesn't hold.
 pub(crate) fn expect_in_directory<R, M, F>(
     rt: &HostRuntime,
     test: &str,

@@ -1,9 +1,9 @@
--- The first bytes of a file that comes in pieces.
+-- The first bytes of a file that is read in pieces.
 use Rattle.std.proofs.Common.{◌≡◌, ℕ, zero, suc, ◌-◌, List, [], ◌∷◌, ◌++◌, length, ap, ◌∙◌, arith}
 use Rattle.std.proofs.lemmas.List.{take_min}
 use Rattle.std.specs.Prelude.{min, take}
 
--- so many of the first bytes as are missing are taken of the next piece
+-- the missing first bytes are the first of the next piece
 pub first_of_both : (n missing : ℕ) (xs ys : List ℕ) → missing ≡ min (n - length (take n xs)) (length ys) → take n xs ++ take missing ys ≡ take n (xs ++ ys)
 first_of_both zero missing xs ys is = let none : missing ≡ 0 = omega (arith, is) in ap (λ (k : ℕ). take k ys) none
 first_of_both (suc n) missing [] ys is =

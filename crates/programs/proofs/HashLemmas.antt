@@ -1,64 +1,64 @@
--- Hashed bytes of an image, and what two tests of its digest say that decide alike.
+-- The hashed bytes of an image, and tests of the checksum that give the same result.
 use Rattle.std.proofs.Common.{◌≡◌, ℕ, ◌-◌, ◌≤◌, ◌<◌, ◌⊎◌, List, ◌++◌, length, ap, inl, inr, arith, length-take}
 use Rattle.std.specs.Prelude.{min, take}
 use Rattle.std.proofs.lemmas.List.{length-drop}
 use Rattle.sha2.proofs.Facts256.{length-sha256}
 use Rattle.mj_model.specs.declared.image_fault.ImageFault.{ImageFault}
 use Rattle.mj_model.specs.declared.image_fault.ImageFault.TheVariants.{Digest, Memory}
-use Rattle.image_bytes.specs.ImageBytes.{header_length, section_end}
-use Rattle.image_bytes.specs.ImageFaults.{IsAccepted, IsDigestAt, IsImageFault, PassesDigest}
-use Rattle.image_bytes.specs.declared.digest_test.DigestTest.{DigestTest}
-use Rattle.image_bytes.specs.declared.digest_test.DigestTest.TheVariants.{Made, Skipped}
-use Rattle.image_bytes.specs.declared.header.Header.{Header}
-use Rattle.image_check.specs.Starving.{PassToKeys}
-use Rattle.programs.specs.HashedImages.{DecideAlike, digest_place}
+use Rattle.image_format.specs.ImageBytes.{header_length, section_end}
+use Rattle.image_format.specs.ImageFaults.{IsAccepted, IsDigestAt, IsImageFault, PassesDigest}
+use Rattle.image_format.specs.declared.digest_test.DigestTest.{DigestTest}
+use Rattle.image_format.specs.declared.digest_test.DigestTest.TheVariants.{Made, Skipped}
+use Rattle.image_format.specs.declared.header.Header.{Header}
+use Rattle.dict_image.specs.Validation.BeforeMemory.{ReachKeys}
+use Rattle.programs.specs.HashedImages.{AgreeOnDigest, digest_place}
 use Rattle.programs.proofs.FirstBytes.{first_of_both}
 use Rattle.programs.proofs.ImageHeadLemmas.{header_kept}
 
--- of a further piece so many bytes are missing before a place
+-- how many bytes of a further piece lie before offset `end`
 pub hashed_of_both : (end before missing : ℕ) (bytes piece : List ℕ) → before ≡ length bytes → missing ≡ min (end - before) (length piece)
     → take end bytes ++ take missing piece ≡ take end (bytes ++ piece)
 hashed_of_both end before missing bytes piece count is =
     let front = length-take end bytes in
     first_of_both end missing bytes piece (omega (arith, count, is, front))
 
--- the digest stays where it is, whatever follows the header
+-- the offset of the checksum depends on the header alone
 pub place_kept : (first rest : List ℕ) → header_length ≤ length first → digest_place (first ++ rest) ≡ digest_place first
 place_kept first rest long = ap (λ (h : Header). section_end h 8) (header_kept first rest long)
 
--- a digest that is right need not be tested
-pub digest_found : (asked : DigestTest) (bytes : List ℕ) → IsDigestAt Made (digest_place bytes) bytes → DecideAlike asked Skipped bytes
+-- a checksum that is right need not be tested again
+pub digest_found : (asked : DigestTest) (bytes : List ℕ) → IsDigestAt Made (digest_place bytes) bytes → AgreeOnDigest asked Skipped bytes
 digest_found Made bytes right = ((λ _ _. tt), (λ _ _. right))
 digest_found Skipped bytes right = ((λ _ _. tt), (λ _ _. tt))
 
--- the test of the digest is the third one of the ends
-module _ (asked left : DigestTest) (bytes : List ℕ) (alike : DecideAlike asked left bytes) where
+-- checksum tests with the same result make the other tests of an image give the same result
+module _ (asked left : DigestTest) (bytes : List ℕ) (alike : AgreeOnDigest asked left bytes) where
   pub accepted_alike : IsAccepted left bytes → IsAccepted asked bytes
   accepted_alike w = (w.0, (w.1.0, (w.1.1.0, (w.1.1.1.0, (w.1.1.1.1.0, (alike.1 w.1.1.1.1.1.0, w.1.1.1.1.1.1))))))
 
-  pub keys_alike : PassToKeys left bytes → PassToKeys asked bytes
+  pub keys_alike : ReachKeys left bytes → ReachKeys asked bytes
   keys_alike w = (w.0, (w.1.0, (w.1.1.0, (alike.1 w.1.1.1.0, w.1.1.1.1))), w.2)
 
   later : {T P F G : Type 0} → (F → G) → T ⊎ (P × F) → T ⊎ (P × G)
-  later so (inl tells) = inl tells
+  later so (inl reports) = inl reports
   later so (inr both) = inr (both.0, so both.1)
 
-  last : {F : Type 0} {told : ImageFault} → ((PassesDigest left bytes → ⊥) × (told ≡ Digest)) ⊎ (PassesDigest left bytes × F)
-      → ((PassesDigest asked bytes → ⊥) × (told ≡ Digest)) ⊎ (PassesDigest asked bytes × F)
-  last (inl tells) = inl ((λ passes. tells.0 (alike.0 passes)), tells.1)
+  last : {F : Type 0} {reported : ImageFault} → ((PassesDigest left bytes → ⊥) × (reported ≡ Digest)) ⊎ (PassesDigest left bytes × F)
+      → ((PassesDigest asked bytes → ⊥) × (reported ≡ Digest)) ⊎ (PassesDigest asked bytes × F)
+  last (inl reports) = inl ((λ passes. reports.0 (alike.0 passes)), reports.1)
   last (inr both) = inr (alike.1 both.0, both.1)
 
   pub fault_alike : (fault : ImageFault) → IsImageFault left bytes fault → IsImageFault asked bytes fault
-  fault_alike fault told = later (later (later (later (later last)))) told
+  fault_alike fault reported = later (later (later (later (later last)))) reported
 
   pub refused_alike : (fault : ImageFault) → (fault ≡ Memory) ⊎ IsImageFault left bytes fault → (fault ≡ Memory) ⊎ IsImageFault asked bytes fault
   refused_alike fault (inl none) = inl none
-  refused_alike fault (inr told) = inr (fault_alike fault told)
+  refused_alike fault (inr reported) = inr (fault_alike fault reported)
 
--- bytes that end before the place of the digest have none
+-- bytes that end before the offset of the checksum have no checksum
 pub too_short : (place : ℕ) (image : List ℕ) → length image < place → IsDigestAt Made place image → ⊥
 too_short place image short same =
-    let behind = length-drop place image in
+    let following = length-drop place image in
     let digest = length-sha256 (take place image) in
     let both = ap length same in
-    omega (arith, short, behind, digest, both)
+    omega (arith, short, following, digest, both)

@@ -1,9 +1,8 @@
 pub mod FirstBytes
-pub mod HomeLemmas
+pub mod ImageDirLemmas
 mod HashLemmas
 mod ImageHeadLemmas
-pub mod ImageRefusals
+pub mod ImageErrors
 mod ReadOn
 mod Results
 pub mod SlashLemmas
-mod WrittenBytes

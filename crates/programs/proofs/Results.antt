@@ -1,4 +1,4 @@
--- What is known of an answer, whichever it is.
+-- What is known of a result, whether Ok or Err.
 use Rattle.std.proofs.Common.{◌≡◌, ap}
 use Rattle.std.specs.Prelude.{IfErr, IfOk, OnOk, Result, Ok, Err}
 use Rattle.programs.specs.declared.image_reading.ImageReadFault.{ImageReadFault}
@@ -17,14 +17,14 @@ pub on_ok_so : {X E : Type 0} (P Q : Type 0) (answer : Result X E) → (P → Q)
 on_ok_so P Q (Ok x) so p = so p
 on_ok_so P Q (Err e) so p = tt
 
-abbrev told : (X : Type 0) → ReadFault → Result X ImageReadFault
-told X fault = Err (Read fault)
+abbrev reported : (X : Type 0) → ReadFault → Result X ImageReadFault
+reported X fault = Err (Read fault)
 
 abbrev read_told : {X : Type 0} → ReadFault → Result X ImageReadFault → ReadFault
 read_told otherwise (Ok x) = otherwise
 read_told otherwise (Err (Read fault)) = fault
 read_told otherwise (Err (Image fault)) = otherwise
 
--- answers that tell faults of a read are the same only where these are
-pub same_read : (X : Type 0) (f g : ReadFault) → told X f ≡ told X g → f ≡ g
+-- results that carry an error of a read are equal only if these errors are
+pub same_read : (X : Type 0) (f g : ReadFault) → reported X f ≡ reported X g → f ≡ g
 same_read X f g same = ap (read_told g) same

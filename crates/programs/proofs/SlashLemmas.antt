@@ -1,10 +1,10 @@
--- Whether a name is bare, from what a search for a slash in it finds.
+-- A name is bare if a search finds no slash in it.
 use Rattle.std.proofs.Common.{◌≡◌, ℕ, ◌<◌, Bool, true, false, not, List, [], length, get_or, refl}
 use Rattle.std.proofs.lemmas.Bool.{both_ways}
 use Rattle.std.proofs.lemmas.List.Elements.{All-from_get_or}
 use Rattle.std.specs.Path.{slash}
 use Rattle.std.specs.Prelude.{◌≢◌, Decides}
-use Rattle.programs.specs.Homes.{IsBare}
+use Rattle.programs.specs.ImageDirs.{IsBare}
 
 pub bare_without : (name : List ℕ) (found : Bool) → (name ≡ [] → ⊥) → (found ≡ true → (k : ℕ) × (k < length name) × (get_or name k 0 ≡ slash))
     → ((k : ℕ) → k < length name → get_or name k 0 ≡ slash → found ≡ true) → Decides (not found) (IsBare name)

@@ -1,4 +1,4 @@
--- What faults tell: which of them name a path, and the code and the name of each.
+-- The paths, codes and names of errors.
 use Rattle.std.specs.Prelude.{◌≡◌, ◌⊎◌, ℕ, List, Contains, String, string_bytes, codes}
 use Rattle.std.specs.declared.alloc.Global.{Global}
 use Rattle.mj_model.specs.declared.image_fault.ImageFault.{ImageFault}
@@ -13,33 +13,29 @@ use Rattle.programs.specs.declared.reading.ReadFault.TheVariants.{Device, Endles
 use Rattle.programs.specs.declared.fault.Fault.{Fault}
 use Rattle.programs.specs.declared.fault.Fault.TheVariants.{File, Source, Sources, Image, Overlay, Format, Run, Output, Memory}
 
--- what is wrong with the image as a whole, and want of memory, belong to no file
+-- errors that belong to no file: limits of the image as a whole, and allocation failures
 abbrev pub BelongsToNoFile : SourceKind → Type 0
 BelongsToNoFile fault = (fault ≡ kind.ArrayFull) ⊎ (fault ≡ kind.FeaturesTooLarge) ⊎ (fault ≡ kind.Memory)
 
--- a fault of the file at a path is told by that path; want of memory may stand in its place
+-- the error names the file at `path`, unless it is an allocation failure
 abbrev pub Names : (String Global → Fault) → List ℕ → Fault → Type 0
-Names fault_at path told = (told ≡ Memory) ⊎ ((name : String Global) × (told ≡ fault_at name) × (string_bytes name ≡ path))
+Names fault_at path reported = (reported ≡ Memory) ⊎ ((name : String Global) × (reported ≡ fault_at name) × (string_bytes name ≡ path))
 
--- so of one of the files at some paths
+-- the error names one of the files at `paths`, unless it is an allocation failure
 abbrev pub NamesOneOf : List (String Global) → Fault → Type 0
-NamesOneOf paths told = (told ≡ Memory) ⊎ ((path : String Global) × Contains paths path × Names File (string_bytes path) told)
+NamesOneOf paths reported = (reported ≡ Memory) ⊎ ((path : String Global) × Contains paths path × Names File (string_bytes path) reported)
 
--- so of an image at a path: its file can't be read, or it is refused
+-- the error names the image at `path`, whose file can't be read or which is rejected
 abbrev pub NamesFileOrImage : List ℕ → Fault → Type 0
-NamesFileOrImage path told = Names File path told ⊎ ((fault : ImageFault) × Names (λ name. Image name fault) path told)
+NamesFileOrImage path reported = Names File path reported ⊎ ((fault : ImageFault) × Names (λ name. Image name fault) path reported)
 
--- so of one of the images at some paths
-abbrev pub NamesFileOrImageOf : List (String Global) → Fault → Type 0
-NamesFileOrImageOf paths told = (told ≡ Memory) ⊎ ((path : String Global) × Contains paths path × NamesFileOrImage (string_bytes path) told)
-
--- want of memory is why a reader's bytes can't be had
+-- reading failed because an allocation failed
 abbrev pub IsForMemory : ReadFault → Type 0
 IsForMemory (Device error) = error_kind error ≡ OutOfMemory
 IsForMemory Endless = ⊥
 IsForMemory NoMemory = Unit {0}
 
--- the code and the name of a fault, as they are printed: those of the carried one where it carries one
+-- the code and the name of an error, as they are printed; a carried error gives its own
 abbrev pub fault_words : Fault → Words
 fault_words (File path) = record { code = codes "F1"; name = codes "File" }
 fault_words (Source path fault) = source_words fault.kind

@@ -1,103 +1,110 @@
--- What the first bytes of an image say of the whole.
+-- Errors that the first bytes of an image determine.
 use Rattle.std.specs.Prelude.{◌≡◌, ℕ, ◌+◌, ◌≤◌, ◌<◌, ◌^◌, ◌⊎◌, List, ◌++◌, length, take, Option, Some, IfSome}
 use Rattle.std.specs.Io.KnownBytes.{Consumes}
 use Rattle.mj_model.specs.declared.image_fault.ImageFault.{ImageFault}
 use Rattle.mj_model.specs.declared.image_fault.ImageFault.TheVariants.{BadSection, Memory as NoMemory, Truncated}
-use Rattle.image_bytes.specs.declared.digest_test.DigestTest.{DigestTest}
-use Rattle.image_bytes.specs.ImageBytes.{header_of, header_length, image_magic, total_length}
-use Rattle.image_bytes.specs.ImageFaults.{IsImageFault}
-use Rattle.image_bytes.specs.Layouts.{IsReadLayout}
-use Rattle.image_check.specs.Starving.{PassToKeys}
+use Rattle.image_format.specs.declared.digest_test.DigestTest.{DigestTest}
+use Rattle.image_format.specs.ImageBytes.{header_of, header_length, image_magic, total_length}
+use Rattle.image_format.specs.ImageFaults.{IsImageFault}
+use Rattle.image_format.specs.Layouts.{IsReadLayout}
+use Rattle.dict_image.specs.Validation.BeforeMemory.{ReachKeys}
 use Rattle.programs.specs.declared.fault.Fault.{Fault}
 use Rattle.programs.specs.declared.fault.Fault.TheVariants as image
 use Rattle.programs.specs.declared.image_reading.ImageReadFault.{ImageReadFault}
 use Rattle.programs.specs.declared.image_reading.ImageReadFault.TheVariants.{Read, Image}
 
--- these are as many bytes as there are, where their number is known; a file has fewer than 2^64
+-- the number of bytes is the known one, if there is one, and fits a file: it is below 2^64
 pub record HasLength (known : Option ℕ) (bytes : List ℕ) : Type 0 where
   pub few : length bytes < 2 ^ 64
   pub same : IfSome known (λ n. length bytes ≡ n)
 
--- whether its digest is tested or not, the first fault of an image is this one
+-- the first error of an image, whether its checksum is tested or not
 abbrev pub IsFaultOf : List ℕ → ImageFault → Type 0
 IsFaultOf bytes fault = (digest : DigestTest) → IsImageFault digest bytes fault
 
--- this is the first fault of all bytes of a length that begin with these
+-- the first error of all byte strings of this length that begin with `first`
 abbrev pub IsFaultOfEach : Option ℕ → List ℕ → ImageFault → Type 0
 IsFaultOfEach known first fault = (rest : List ℕ) → HasLength known (first ++ rest) → IsFaultOf (first ++ rest) fault
 
--- bytes pass the tests of an image's magic and layout, and their header demands so many in all
-pub record IsHead (first : List ℕ) (told : ℕ) : Type 0 where
+-- the bytes pass the tests of an image's magic and layout, and their header demands `reported` bytes in
+-- all
+pub record IsHead (first : List ℕ) (reported : ℕ) : Type 0 where
   pub long : header_length ≤ length first
   pub magic : take 8 first ≡ image_magic
   pub layout : IsReadLayout (header_of first).layout
-  pub told_is : told ≡ total_length (header_of first)
+  pub told_is : reported ≡ total_length (header_of first)
 
--- bytes that are fewer than a header has, or that pass those tests and are no more than their header demands
+-- bytes shorter than a header, or bytes that pass those tests and are no more than their header
+-- demands
 abbrev pub IsReadHead : List ℕ → Type 0
 IsReadHead bytes = (length bytes < header_length) ⊎ ((demanded : ℕ) × IsHead bytes demanded × (length bytes ≤ demanded))
 
--- bytes pass the tests of an image's magic and layout, but their header demands more bytes than so many, or fewer
+-- the bytes pass the tests of magic and layout, but their header demands more than `count` bytes,
+-- or fewer
 abbrev pub IsLengthFault : ℕ → List ℕ → ImageFault → Type 0
 IsLengthFault count bytes fault =
     (demanded : ℕ) × IsHead bytes demanded × (((fault ≡ Truncated) × (count < demanded)) ⊎ ((fault ≡ BadSection 9) × (demanded < count)))
 
--- the first fault of bytes, or else that of the number of bytes that is known, which may be another than theirs
-abbrev pub IsJudged : Option ℕ → List ℕ → ImageFault → Type 0
-IsJudged known bytes fault = IsFaultOf bytes fault ⊎ ((count : ℕ) × (known ≡ Some count) × IsLengthFault count bytes fault)
+-- the first error of the bytes, or the error of the known number of bytes, which may be wrong
+abbrev pub IsErrorOrKnownLength : Option ℕ → List ℕ → ImageFault → Type 0
+IsErrorOrKnownLength known bytes fault = IsFaultOf bytes fault ⊎ ((count : ℕ) × (known ≡ Some count) × IsLengthFault count bytes fault)
 
--- so of all bytes that begin with these and are few enough for a file
-abbrev pub IsJudgedOfEach : Option ℕ → List ℕ → ImageFault → Type 0
-IsJudgedOfEach known first fault = (rest : List ℕ) → length (first ++ rest) < 2 ^ 64 → IsJudged known (first ++ rest) fault
+-- an error of each byte string that begins with `first` and fits a file, by `IsErrorOrKnownLength`
+abbrev pub IsErrorOrLengthOfEach : Option ℕ → List ℕ → ImageFault → Type 0
+IsErrorOrLengthOfEach known first fault = (rest : List ℕ) → length (first ++ rest) < 2 ^ 64 → IsErrorOrKnownLength known (first ++ rest) fault
 
--- so of the bytes of a reader, where these are known
-abbrev pub IsJudgedAt : Option ℕ → Option (List ℕ) → ImageReadFault → Type 0
-IsJudgedAt known remaining (Read fault) = Unit {0}
-IsJudgedAt known remaining (Image fault) = IfSome remaining (λ bytes. length bytes < 2 ^ 64 → IsJudged known bytes fault)
+-- an error of the bytes of a reader, by `IsErrorOrKnownLength`, if these are known
+abbrev pub IsErrorOrLengthAt : Option ℕ → Option (List ℕ) → ImageReadFault → Type 0
+IsErrorOrLengthAt known remaining (Read fault) = Unit {0}
+IsErrorOrLengthAt known remaining (Image fault) = IfSome remaining (λ bytes. length bytes < 2 ^ 64 → IsErrorOrKnownLength known bytes fault)
 
--- the bytes of a reader are refused with a fault only where it is theirs
-abbrev pub IsRefusalAt : Option ℕ → Option (List ℕ) → ImageReadFault → Type 0
-IsRefusalAt known remaining (Read fault) = Unit {0}
-IsRefusalAt known remaining (Image fault) = IfSome remaining (λ bytes. HasLength known bytes → IsFaultOf bytes fault)
+-- a reader's bytes are rejected only with their own first error
+abbrev pub IsErrorAt : Option ℕ → Option (List ℕ) → ImageReadFault → Type 0
+IsErrorAt known remaining (Read fault) = Unit {0}
+IsErrorAt known remaining (Image fault) = IfSome remaining (λ bytes. HasLength known bytes → IsFaultOf bytes fault)
 
--- the same of what a reader has behind first bytes, whatever their number is known to be
-abbrev pub IsRestRefusal : List ℕ → Option (List ℕ) → ImageReadFault → Type 0
-IsRestRefusal first remaining (Read fault) = Unit {0}
-IsRestRefusal first remaining (Image fault) = IfSome remaining (λ rest. IsFaultOf (first ++ rest) fault)
+-- the bytes after `first` are rejected only with the first error of the whole, whatever length is
+-- known
+abbrev pub IsRestError : List ℕ → Option (List ℕ) → ImageReadFault → Type 0
+IsRestError first remaining (Read fault) = Unit {0}
+IsRestError first remaining (Image fault) = IfSome remaining (λ rest. IsFaultOf (first ++ rest) fault)
 
--- bytes are refused because they go on behind those that their header demands
+-- the bytes are rejected because there are more than their header demands
 abbrev pub IsForLength : ImageReadFault → Type 0
 IsForLength (Read fault) = Unit {0}
 IsForLength (Image fault) = fault ≡ BadSection 9
 
--- between two states a reader gave those of a header and what one read may give, where bytes are refused for another fault
-abbrev pub IsRefusedEarly : Option (List ℕ) → Option (List ℕ) → ImageReadFault → Type 0
-IsRefusedEarly before after (Read fault) = Unit {0}
-IsRefusedEarly before after (Image fault) =
+-- unless there are too many bytes, they are rejected before more is read than a header and what one
+-- read gives
+abbrev pub IsRejectedEarly : Option (List ℕ) → Option (List ℕ) → ImageReadFault → Type 0
+IsRejectedEarly before after (Read fault) = Unit {0}
+IsRejectedEarly before after (Image fault) =
     (fault ≡ BadSection 9) ⊎ ((bytes : List ℕ) × Consumes before after bytes × (length bytes < header_length + 2 ^ 16))
 
--- of the refusal of an image at a path this is so; another fault is not of the image's bytes
-abbrev pub IfRefused : (ImageReadFault → Type 0) → Fault → Type 0
-IfRefused IsSo (image.Image path fault) = IsSo (Image fault)
-IfRefused IsSo told = Unit {0}
+-- the rejection of the image satisfies `IsSo`; other errors are not errors of the image's bytes
+abbrev pub IfRejected : (ImageReadFault → Type 0) → Fault → Type 0
+IfRejected IsSo (image.Image path fault) = IsSo (Image fault)
+IfRejected IsSo reported = Unit {0}
 
--- the first fault of bytes; or, of a file of which another length was told than it has, that of this length
+-- the first error of the bytes, or the error of a reported file length that differs from theirs
 abbrev pub IsFaultOrLength : List ℕ → ImageFault → Type 0
 IsFaultOrLength bytes fault = IsFaultOf bytes fault ⊎ ((count : ℕ) × IsLengthFault count bytes fault)
 
--- an image is refused with a fault only where it is that of some file that was opened, if its bytes are known; other faults are not of the bytes
-abbrev pub IsRefusalOfAFile : {F : Type 0} → (F → Option (List ℕ)) → Fault → Type 0
-IsRefusalOfAFile {F = F} remaining (image.Image path fault) =
+-- an image is rejected only with the error of some opened file, if its bytes are known
+abbrev pub IsErrorOfAFile : {F : Type 0} → (F → Option (List ℕ)) → Fault → Type 0
+IsErrorOfAFile {F = F} remaining (image.Image path fault) =
     (opened : F) × IfSome (remaining opened) (λ bytes. length bytes < 2 ^ 64 → IsFaultOrLength bytes fault)
-IsRefusalOfAFile remaining told = Unit {0}
+IsErrorOfAFile remaining reported = Unit {0}
 
--- memory was refused for bytes that pass the tests before those of the keys, which take none
-abbrev pub IsStarvedLoad : DigestTest → List ℕ → ImageFault → Type 0
-IsStarvedLoad digest bytes fault = (fault ≡ NoMemory) × PassToKeys digest bytes
+-- an allocation failed for bytes that pass the tests before those of the keys, which allocate
+-- nothing
+abbrev pub IsOutOfMemoryLoad : DigestTest → List ℕ → ImageFault → Type 0
+IsOutOfMemoryLoad digest bytes fault = (fault ≡ NoMemory) × ReachKeys digest bytes
 
--- the same where the image was to be loaded: its other tests may be what it does not pass, and memory may be refused for them
-abbrev pub IsLoadRefusal : {F : Type 0} → DigestTest → (F → Option (List ℕ)) → Fault → Type 0
-IsLoadRefusal {F = F} digest remaining (image.Image path fault) =
+-- loading an image fails only with the error of some opened file: of its bytes, of its reported
+-- length, or out of memory after the first tests
+abbrev pub IsLoadError : {F : Type 0} → DigestTest → (F → Option (List ℕ)) → Fault → Type 0
+IsLoadError {F = F} digest remaining (image.Image path fault) =
     (opened : F)
-    × IfSome (remaining opened) (λ bytes. length bytes < 2 ^ 64 → IsStarvedLoad digest bytes fault ⊎ (IsImageFault digest bytes fault ⊎ IsFaultOrLength bytes fault))
-IsLoadRefusal digest remaining told = Unit {0}
+    × IfSome (remaining opened) (λ bytes. length bytes < 2 ^ 64 → IsOutOfMemoryLoad digest bytes fault ⊎ (IsImageFault digest bytes fault ⊎ IsFaultOrLength bytes fault))
+IsLoadError digest remaining reported = Unit {0}

@@ -1,8 +1,9 @@
 pub mod Faults
 pub mod HashedImages
-pub mod Homes
+pub mod ImageDirs
 pub mod ImageHeads
 pub mod ImageRows
+pub mod LoadedImages
 pub mod Paths
 pub mod Reading
 pub mod Statuses

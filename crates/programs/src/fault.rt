@@ -1,4 +1,4 @@
-//! What a program tells when it ends early.
+//! Errors that end a program.
 
 ghost use Rattle.std.specs.Prelude.{◌≡◌, ◌⊎◌, None, IfSome, true, false};
 ghost use Rattle.std.specs.IoError.{error_kind};
@@ -14,31 +14,32 @@ use std::alloc::{AllocError, Global};
 use std::io::{self, ErrorKind};
 use std::string::String;
 
-/// Why a program ended before its work was done.
+/// Why a program ended early.
 #[derive(Debug, PartialEq, Eq, Drop)]
 pub enum Fault {
     /// The file or directory at this path can't be read or written, or doesn't end.
     File(String),
-    /// The source at this path is refused.
+    /// The source at this path is rejected.
     Source(String, SourceFault),
-    /// The sources together are refused: the fault belongs to no file.
+    /// The sources together are rejected: the error belongs to no file.
     Sources(SourceFault),
-    /// The image at this path is refused.
+    /// The image at this path is rejected.
     Image(String, ImageFault),
-    /// The image at this path is of no use where it was given.
+    /// The image at this path is valid, but can't be used in its position as system or user
+    /// dictionary.
     Overlay(String, OverlayFault),
-    /// The format is refused.
+    /// The format is rejected.
     Format(FormatFault),
-    /// The run over the text ended; what it carries is neither `Source` nor `UserSource`.
+    /// Segmenting the text failed, for a reason that is neither `Source` nor `UserSource`.
     Run(RunFault),
-    /// Standard output failed.
+    /// Writing to standard output failed.
     Output,
-    /// Memory was refused.
+    /// An allocation failed.
     Memory,
 }
 
 impl Fault {
-    /// The fault of a call on the file or directory at a path that failed.
+    /// Returns the error for a failed call on the file or directory at `path`.
     pub fn of_file(alloc: Global, path: &str, error: &io::Error) -> Fault
         ensures path { Names File path.now result }
         ensures memory { error_kind error.now ≡ ErrorKind.OutOfMemory → result ≡ Memory }
@@ -52,7 +53,7 @@ impl Fault {
         Fault::File(path)
     }
 
-    /// The fault of the file at a path whose bytes can't be had.
+    /// Returns the error for a file at `path` whose bytes can't be read.
     pub fn of_reading(alloc: Global, path: &str, fault: ReadFault) -> Fault
         ensures path { Names File path.now result }
         ensures memory { IsForMemory fault → result ≡ Memory }
@@ -65,10 +66,11 @@ impl Fault {
         Fault::of_file(alloc, path, &error)
     }
 
-    /// The fault of the source at a path, or of the sources together where it belongs to no file.
+    /// Returns the error for the source at `path`, or for the sources together if the error belongs
+    /// to no file.
     pub fn of_source(alloc: Global, path: Option<&str>, fault: SourceFault) -> Fault
         ensures source { IfSome path.entry (λ path. (BelongsToNoFile fault.kind → ⊥)
-            → Names (λ told. Source told fault) path.now result) }
+            → Names (λ reported. Source reported fault) path.now result) }
         ensures together { (path.entry ≡ None) ⊎ BelongsToNoFile fault.kind
             → result ≡ Sources fault }
     {
@@ -81,9 +83,9 @@ impl Fault {
         Fault::Source(path, fault)
     }
 
-    /// The fault of the image at a path.
+    /// Returns the error for the image at `path`.
     pub fn of_image(alloc: Global, path: &str, fault: ImageFault) -> Fault
-        ensures { Names (λ told. Image told fault) path.now result }
+        ensures { Names (λ reported. Image reported fault) path.now result }
     {
         let Ok(path) = String::from_str(alloc, path) else {
             return Fault::Memory;
@@ -91,9 +93,10 @@ impl Fault {
         Fault::Image(path, fault)
     }
 
-    /// The fault of the image at a path among those that are laid over one another.
+    /// Returns the error for the image at `path` among a system dictionary and its user
+    /// dictionaries.
     pub fn of_overlay(alloc: Global, path: &str, fault: OverlayFault) -> Fault
-        ensures { Names (λ told. Overlay told fault) path.now result }
+        ensures { Names (λ reported. Overlay reported fault) path.now result }
     {
         let Ok(path) = String::from_str(alloc, path) else {
             return Fault::Memory;
@@ -102,7 +105,7 @@ impl Fault {
     }
 }
 
-/// Whether a fault of this kind is told with the path of a file.
+/// Returns whether errors of this kind are printed with the path of a file.
 pub(crate) fn belongs_to_a_file(kind: SourceKind) -> bool
     ensures yes { result ≡ true → BelongsToNoFile kind → ⊥ }
     ensures no { result ≡ false → BelongsToNoFile kind }

@@ -1,17 +1,18 @@
-//! The names of the images in a folder.
+//! The names of the images in a directory.
 
 ghost use Rattle.std.specs.Prelude.{◌≡◌, IfOk, IsPermutation, IsSorted, OnOk, string_cmp, true};
-ghost use Rattle.programs.specs.Homes.{AreBare, IsBare};
+ghost use Rattle.programs.specs.ImageDirs.{AreBare, IsBare};
 
-use crate::homes::image_in;
+use crate::image_dirs::image_in;
 use crate::named_image::{is_bare, is_file};
 use std::alloc::AllocError;
 use std::io::ErrorKind;
 use std::string::String;
 use std::{fs, io};
 
-/// The names of the images in a folder, in byte order: of each regular file `NAME.img`. A folder that can't be read has none, and a
-/// name that is not UTF-8 can't be given to a program.
+/// Returns the name of each regular file `NAME.img` in `folder`, in byte order. A directory that
+/// can't be read has none. Names that are not UTF-8 are left out, because a program can't take them
+/// as arguments.
 pub fn image_names(rt: &HostRuntime, folder: &str) -> Result<Vec<String>, AllocError>
     ensures named { IfOk result (λ names. AreBare names.items) }
     ensures order { IfOk result (λ names. IsSorted string_cmp names.items) }
@@ -23,7 +24,7 @@ pub fn image_names(rt: &HostRuntime, folder: &str) -> Result<Vec<String>, AllocE
     }
 }
 
-/// Names in byte order.
+/// Sorts names in byte order.
 pub fn in_byte_order(mut names: Vec<String>) -> Result<Vec<String>, AllocError>
     ensures same { IfOk result (λ ordered. IsPermutation names.items ordered.items) }
     ensures order { IfOk result (λ ordered. IsSorted string_cmp ordered.items) }
@@ -32,7 +33,7 @@ pub fn in_byte_order(mut names: Vec<String>) -> Result<Vec<String>, AllocError>
     Ok(names)
 }
 
-/// The same in no order.
+/// Returns the names of the images in `folder`, in no particular order.
 fn names_in(rt: &HostRuntime, folder: &str) -> io::Result<Vec<String>>
     ensures named { IfOk result (λ names. AreBare names.items) }
 {
@@ -47,7 +48,7 @@ fn names_in(rt: &HostRuntime, folder: &str) -> io::Result<Vec<String>>
     Ok(names)
 }
 
-/// Adds the name of the image that a file of a folder is, if it is one.
+/// Appends the name of the image in `folder/file`, if the file is an image.
 fn add_name(
     rt: &HostRuntime,
     folder: &str,
@@ -66,7 +67,7 @@ fn add_name(
     Ok(())
 }
 
-/// Whether a folder has the image of a bare name.
+/// Returns whether `folder` contains an image named `name`, which must be bare.
 fn has_image(rt: &HostRuntime, folder: &str, name: &str) -> Result<bool, AllocError>
     ensures bare { IfOk result (λ has. has ≡ true → IsBare name.now) }
 {

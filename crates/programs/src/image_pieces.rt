@@ -1,81 +1,84 @@
-//! The bytes of an image as they come, those before its digest hashed.
+//! The bytes of an image as they are read. The bytes before its checksum are hashed meanwhile.
 
 ghost use Rattle.std.specs.Prelude.{◌≡◌, ◌≤◌, ◌↔◌, ℕ, List, [], ◌++◌, length, IfSome, IsTrue};
-ghost use Rattle.image_bytes.specs.ImageBytes.{header_length};
-ghost use Rattle.image_bytes.specs.ImageFaults.{IsDigestAt};
-ghost use Rattle.image_bytes.specs.declared.digest_test.DigestTest.TheVariants.{Made};
-ghost use Rattle.programs.specs.HashedImages.{DecideAlike, HasCome, HasHashed, digest_place};
+ghost use Rattle.image_format.specs.ImageBytes.{header_length};
+ghost use Rattle.image_format.specs.ImageFaults.{IsDigestAt};
+ghost use Rattle.image_format.specs.declared.digest_test.DigestTest.TheVariants.{Made};
+ghost use Rattle.programs.specs.HashedImages.{AgreeOnDigest, HasReceived, HasHashed, digest_place};
 
 use crate::image_reading::{ImageReading, ReadImage};
 use crate::progress::ReadProgress;
-use crate::reading::Pieces;
-use image_bytes::{DigestTest, read_header, section_ends};
+use crate::reading::ByteSink;
+use image_format::{DigestTest, read_header, section_ends};
 use sha2::{Digest, Sha256};
 use std::alloc::AllocError;
 
-/// The bytes of an image as far as they came, from its header on. Those before its digest are hashed, where that is to be tested.
+/// The bytes of an image that have been read, at least its header. The bytes before the checksum
+/// are hashed if it is to be tested.
 #[derive(Drop)]
 pub(crate) struct ImagePieces<'a> {
     bytes: Vec<u8>,
     hashed: Option<Hashed>,
-    told: Option<ReadProgress<'a>>,
+    reported: Option<ReadProgress<'a>>,
 }
 
-impl<'a> Pieces for ImagePieces<'a> {
-    ghost given = { λ pieces bytes. HasCome bytes pieces };
+impl<'a> ByteSink for ImagePieces<'a> {
+    ghost received = { λ pieces bytes. HasReceived bytes pieces };
 
     fn with(self, piece: &[u8]) -> Result<ImagePieces<'a>, AllocError> {
         let ImagePieces {
             mut bytes,
             hashed,
-            told,
+            reported,
         } = self;
         let before = bytes.len();
         bytes.extend_from_slice(piece)?;
-        tell_length(told, bytes.len());
+        report_length(reported, bytes.len());
         Ok(ImagePieces {
             bytes,
-            hashed: go_on(hashed, before, piece),
-            told,
+            hashed: update_hash(hashed, before, piece),
+            reported,
         })
     }
 }
 
 impl<'a> ImagePieces<'a> {
-    /// Where the first bytes of an image came.
-    pub(crate) fn begun(first: Vec<u8>, reading: ImageReading<'a>) -> ImagePieces<'a>
+    /// Creates the pieces of an image from its first bytes.
+    pub(crate) fn started(first: Vec<u8>, reading: ImageReading<'a>) -> ImagePieces<'a>
         requires { header_length ≤ length first.items }
-        ensures { HasCome first.items result }
+        ensures { HasReceived first.items result }
     {
         let hashed = Hashed::of_first(&first, reading.digest);
         ImagePieces {
             bytes: first,
             hashed,
-            told: reading.told,
+            reported: reading.reported,
         }
     }
 
-    /// The image, whose bytes have all come. `asked` is the test of the digest that it was read for.
+    /// Returns the image after its last byte. `asked` is the checksum test that was requested for
+    /// it.
     pub(crate) fn whole(self, asked: DigestTest) -> ReadImage
-        ensures bytes { (bytes : List ℕ) → HasCome bytes self.entry → result.bytes.items ≡ bytes }
-        ensures digest { (bytes : List ℕ) → HasCome bytes self.entry
-            → DecideAlike asked result.digest bytes }
+        ensures bytes { (bytes : List ℕ) → HasReceived bytes self.entry
+            → result.bytes.items ≡ bytes }
+        ensures digest { (bytes : List ℕ) → HasReceived bytes self.entry
+            → AgreeOnDigest asked result.digest bytes }
     {
         let ImagePieces { bytes, hashed, .. } = self;
-        let digest = test_left(hashed, &bytes, asked);
+        let digest = remaining_test(hashed, &bytes, asked);
         ReadImage { bytes, digest }
     }
 }
 
-/// Tells that so many bytes came, if anybody is told.
-fn tell_length(told: Option<ReadProgress<'_>>, bytes: usize) {
-    if let Some(told) = told {
-        told.tell(bytes as u64);
+/// Reports the number of bytes read, if there is a progress line.
+fn report_length(reported: Option<ReadProgress<'_>>, bytes: usize) {
+    if let Some(reported) = reported {
+        reported.report_progress(bytes as u64);
     }
 }
 
-/// What is hashed behind so many bytes and a further piece, if something is.
-fn go_on(hashed: Option<Hashed>, before: usize, piece: &[u8]) -> Option<Hashed>
+/// Updates the hasher, if there is one, with `piece`. `before` is the number of bytes read earlier.
+fn update_hash(hashed: Option<Hashed>, before: usize, piece: &[u8]) -> Option<Hashed>
     ensures { (end : ℕ) (bytes : List ℕ) → before ≡ length bytes
         → IfSome hashed (HasHashed end bytes)
         → IfSome result (HasHashed end (bytes ++ piece.now)) }
@@ -86,40 +89,42 @@ fn go_on(hashed: Option<Hashed>, before: usize, piece: &[u8]) -> Option<Hashed>
     }
 }
 
-/// The test of the digest that is left to make of the whole image: none where its bytes were hashed and the digest is right.
-fn test_left(hashed: Option<Hashed>, image: &[u8], asked: DigestTest) -> DigestTest
+/// Returns the checksum test that remains to be made for a whole image: none if it was hashed and
+/// the checksum is right.
+fn remaining_test(hashed: Option<Hashed>, image: &[u8], asked: DigestTest) -> DigestTest
     ensures { IfSome hashed (HasHashed (digest_place image.now) image.now)
-        → DecideAlike asked result image.now }
+        → AgreeOnDigest asked result image.now }
 {
     match hashed {
-        Some(hashed) => hashed.test_left(image, asked),
+        Some(hashed) => hashed.remaining_test(image, asked),
         None => asked,
     }
 }
 
-/// The bytes of an image before its digest, as far as they came, in a hasher.
+/// The hasher of the bytes of an image before its checksum.
 #[derive(Drop)]
 pub(crate) struct Hashed {
-    /// Where the digest begins.
+    /// Offset of the checksum in bytes.
     end: usize,
     hasher: Sha256,
 }
 
 impl Hashed {
-    /// Those of an image that begins with these bytes; None where it has no digest, or that is not to be tested.
+    /// Starts a hasher with the first bytes of an image. Returns None if the image has no checksum
+    /// or it is not to be tested.
     fn of_first(first: &[u8], asked: DigestTest) -> Option<Hashed>
         requires { header_length ≤ length first.now }
         ensures { IfSome result (HasHashed (digest_place first.now) first.now) }
     {
         let header = read_header(first);
-        if asked == DigestTest::Skipped || header.behind_sections() == 0 {
+        if asked == DigestTest::Skipped || header.bytes_after_sections() == 0 {
             return None;
         }
         let end = section_ends(&header)?[8];
         Some(Hashed::nothing(end).with(0, first))
     }
 
-    /// Where no byte came.
+    /// Creates a hasher that has received no byte.
     fn nothing(end: usize) -> Hashed
         ensures { HasHashed end [] result }
     {
@@ -129,7 +134,8 @@ impl Hashed {
         }
     }
 
-    /// Behind so many bytes and a further piece.
+    /// Updates the hasher with `piece`, which follows the first `before` bytes of the image. Bytes
+    /// from the checksum on are ignored.
     fn with(self, before: usize, piece: &[u8]) -> Hashed
         ensures { (end : ℕ) (bytes : List ℕ) → before ≡ length bytes → HasHashed end bytes self
             → HasHashed end (bytes ++ piece.now) result }
@@ -140,10 +146,10 @@ impl Hashed {
         Hashed { end, hasher }
     }
 
-    /// The same of bytes that were hashed.
-    fn test_left(self, image: &[u8], asked: DigestTest) -> DigestTest
+    /// Returns `Skipped` if the checksum of `image` is right, otherwise `asked`.
+    fn remaining_test(self, image: &[u8], asked: DigestTest) -> DigestTest
         ensures { HasHashed (digest_place image.now) image.now self
-            → DecideAlike asked result image.now }
+            → AgreeOnDigest asked result image.now }
     {
         if self.is_before_digest(image) {
             DigestTest::Skipped
@@ -152,7 +158,7 @@ impl Hashed {
         }
     }
 
-    /// Whether their digest stands behind them, and nothing else does. (FIPS 180-4)
+    /// Returns whether the image ends with its checksum, and that is right. (FIPS 180-4)
     fn is_before_digest(self, image: &[u8]) -> bool
         ensures { HasHashed (digest_place image.now) image.now self
             → IsTrue result ↔ IsDigestAt Made (digest_place image.now) image.now }

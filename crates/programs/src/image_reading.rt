@@ -1,36 +1,38 @@
-//! The bytes of an image, whose first ones are judged before the others are read.
+//! Reading images. The header is checked before the other bytes are read.
 
 ghost use Rattle.std.specs.Prelude.{◌≡◌, ◌<◌, ◌≤◌, ◌⊎◌, Err, IfErr, IfOk, IfSome, OnOk, length};
 ghost use Rattle.std.specs.Io.KnownBytes.{IsAtEnd};
-ghost use Rattle.image_bytes.specs.ImageFaults.{IsAccepted, IsImageFault};
-ghost use Rattle.image_bytes.specs.declared.digest_test.DigestTest.{DigestTest as DigestTestOf};
-ghost use Rattle.image_check.specs.Starving.{PassToKeys};
+ghost use Rattle.image_format.specs.ImageFaults.{IsAccepted, IsImageFault};
+ghost use Rattle.image_format.specs.declared.digest_test.DigestTest.{DigestTest as DigestTestOf};
+ghost use Rattle.dict_image.specs.Validation.BeforeMemory.{ReachKeys};
 ghost use Rattle.mj_model.specs.declared.image_fault.ImageFault.TheVariants.{Memory as NoMemory};
-ghost use Rattle.programs.specs.HashedImages.{DecideAlike};
-ghost use Rattle.programs.specs.ImageHeads.{IsForLength, IsHead, IsJudgedAt, IsReadHead, IsRefusalAt, IsRefusedEarly, IsRestRefusal};
+ghost use Rattle.programs.specs.HashedImages.{AgreeOnDigest};
+ghost use Rattle.programs.specs.ImageHeads.{IsForLength, IsHead, IsErrorOrLengthAt, IsReadHead, IsErrorAt, IsRejectedEarly, IsRestError};
 ghost use Rattle.programs.specs.Reading.{GivesAtLeast, IsReadOn};
 ghost use Rattle.programs.specs.declared.image_reading.ImageReadFault.TheVariants.{Read};
 ghost use Rattle.programs.specs.declared.reading.ReadFault.TheVariants.{Endless, Memory};
 
-use crate::front::{Front, read_past};
-use crate::image_head::judge_head;
+use crate::image_head::check_head;
 use crate::image_pieces::ImagePieces;
+use crate::prefix_read::{PrefixRead, read_prefix};
 use crate::progress::ReadProgress;
-use crate::reading::{ReadFault, new_buffer};
-use dict_image::{Dict, load_by};
-use image_bytes::{DigestTest, HEADER_LENGTH};
+use crate::reading::ReadFault;
+use dict_image::{Dict, load_testing};
+use image_format::{DigestTest, HEADER_LENGTH};
+use line_stream::new_buffer;
 use mj_model::ImageFault;
 use std::alloc::{AllocError, Global};
 use std::io;
 
-/// How an image is read: whether its digest is to be tested, and who is told how far the reading is, if anybody is.
+/// How an image is read: whether its checksum is tested, and the progress line, if there is one.
 #[derive(Clone, Copy)]
 pub struct ImageReading<'a> {
     pub digest: DigestTest,
-    pub told: Option<ReadProgress<'a>>,
+    pub reported: Option<ReadProgress<'a>>,
 }
 
-/// The bytes of an image, and the test of its digest that is left to make: none where the digest was found right while they were read.
+/// The bytes of an image, and the checksum test that remains: none if the checksum was found right
+/// during the reading.
 #[derive(Debug, Drop)]
 pub struct ReadImage {
     pub bytes: Vec<u8>,
@@ -38,28 +40,30 @@ pub struct ReadImage {
 }
 
 impl ReadImage {
-    /// Its dictionary, or the first fault of its bytes: what `load_by` answers for the test of the digest that the image was read for.
+    /// Loads the dictionary. Returns what `load_testing` returns for the checksum test that was
+    /// requested.
     pub fn load(self, alloc: Global) -> Result<Dict, ImageFault>
         ensures dict { IfOk result (λ dict. dict ≡ self.bytes.items) }
-        ensures accepted { (asked : DigestTestOf) → DecideAlike asked self.digest self.bytes.items
+        ensures accepted { (asked : DigestTestOf) → AgreeOnDigest asked self.digest self.bytes.items
             → OnOk result (IsAccepted asked self.bytes.items) }
-        ensures refused { (asked : DigestTestOf) → DecideAlike asked self.digest self.bytes.items
+        ensures rejected { (asked : DigestTestOf) → AgreeOnDigest asked self.digest self.bytes.items
             → IfErr result (λ fault.
             (fault ≡ NoMemory) ⊎ IsImageFault asked self.bytes.items fault) }
-        // Memory is the reason only where the bytes pass the tests before those of the keys.
-        ensures starved { IfErr result
-            (λ fault. fault ≡ NoMemory → PassToKeys self.digest self.bytes.items) }
+        // An allocation fails only after the bytes have passed the tests that precede those of the
+        // keys.
+        ensures out_of_memory { IfErr result
+            (λ fault. fault ≡ NoMemory → ReachKeys self.digest self.bytes.items) }
     {
-        load_by(alloc, self.bytes, self.digest)
+        load_testing(alloc, self.bytes, self.digest)
     }
 }
 
-/// Why the bytes of an image can't be had.
+/// Why reading an image failed.
 #[derive(Debug, Drop)]
 pub enum ImageReadFault {
-    /// They can't be read.
+    /// A read failed, or memory for the bytes.
     Read(ReadFault),
-    /// They are those of no image, as the first of them and their number say.
+    /// The header or the length is not that of an image.
     Image(ImageFault),
 }
 
@@ -71,11 +75,11 @@ impl From<AllocError> for ImageReadFault {
     }
 }
 
-/// The bytes of a reader that ends within so many reads, where their first ones are those of an image.
+/// Reads an image from a reader that ends in at most `reads` reads.
 ///
-/// `known` is how many bytes there are in all, where that is known. What the header says is judged
-/// before memory for the other bytes is taken. Of a reader that has more bytes than the header
-/// tells no more than one read behind these is made. Each byte is hashed once, as it comes.
+/// `known` is the total number of bytes, if it is known. The header is checked before memory for
+/// the other bytes is allocated. At most one read goes past the bytes that the header demands. Each
+/// byte is hashed once, as it is read.
 pub fn read_image<R: io::Read>(
     alloc: Global,
     reader: &mut R,
@@ -86,38 +90,39 @@ pub fn read_image<R: io::Read>(
     ensures whole { IfOk result (λ image.
         IfSome (R.remaining reader.old) (λ known. image.bytes.items ≡ known)) }
     ensures end { IfOk result (λ _. IsAtEnd (R.remaining reader.new)) }
-    // The test that is left says what the one that was asked for says.
+    // The remaining checksum test and the requested one accept the same images.
     ensures digest { IfOk result (λ image.
-        DecideAlike reading.entry.digest image.digest image.bytes.items) }
-    // It is called endless only where each of the reads gave a byte at least.
+        AgreeOnDigest reading.entry.digest image.digest image.bytes.items) }
+    // `Endless` is returned only if each of the reads gave at least one byte.
     ensures endless { result ≡ Err (Read Endless)
         → GivesAtLeast reads (R.remaining reader.old) (R.remaining reader.new) }
-    // What is read passed the tests of its header's magic and layout, and of its end.
+    // The bytes passed the tests of magic and layout of the header, and are no more than the header
+    // demands.
     ensures head { IfOk result (λ image. IsReadHead image.bytes.items) }
-    // An image is refused only with the fault that its bytes have.
-    ensures refused { IfErr result (IsRefusalAt known (R.remaining reader.old)) }
-    // Where `known` is not their number, it may be that of this number in its place.
-    ensures judged { IfErr result (IsJudgedAt known (R.remaining reader.old)) }
-    // The header is judged before more is read than it and what one read gives.
+    // An image is rejected only with the error that its bytes have.
+    ensures rejected { IfErr result (IsErrorAt known (R.remaining reader.old)) }
+    // If `known` is not the number of bytes, the error may instead be the one of that length.
+    ensures checked { IfErr result (IsErrorOrLengthAt known (R.remaining reader.old)) }
+    // The header is checked before more is read than the header and what one read gives.
     ensures early { IfErr result
-        (IsRefusedEarly (R.remaining reader.old) (R.remaining reader.new)) }
+        (IsRejectedEarly (R.remaining reader.old) (R.remaining reader.new)) }
 {
     let mut buffer = new_buffer(alloc)?;
     let head = HEADER_LENGTH as u64 - 1;
-    match read_past(reader, &mut buffer, reads, Vec::new(alloc), head) {
-        Ok(Front::Whole(bytes)) => Ok(ReadImage {
+    match read_prefix(reader, &mut buffer, reads, Vec::new(alloc), head) {
+        Ok(PrefixRead::Whole(bytes)) => Ok(ReadImage {
             bytes,
             digest: reading.digest,
         }),
         Ok(
-            Front::More {
+            PrefixRead::More {
                 taken: bytes,
                 reads: left,
             },
-        ) => match judge_head(&bytes, known) {
-            Ok(told) => {
-                let first = with_room(bytes, told, known)?;
-                read_rest(reader, &mut buffer, first, told, left, reading)
+        ) => match check_head(&bytes, known) {
+            Ok(reported) => {
+                let first = with_room(bytes, reported, known)?;
+                read_rest(reader, &mut buffer, first, reported, left, reading)
             }
             Err(fault) => Err(ImageReadFault::Image(fault)),
         },
@@ -125,44 +130,44 @@ pub fn read_image<R: io::Read>(
     }
 }
 
-/// The same behind the first bytes, which tell how many there are.
+/// Reads the bytes after `first`. `reported` is the total length that the header demands.
 fn read_rest<R: io::Read>(
     reader: &mut R,
     buffer: &mut [u8],
     first: Vec<u8>,
-    told: u64,
+    reported: u64,
     reads: u64,
     reading: ImageReading<'_>,
 ) -> Result<ReadImage, ImageReadFault>
     requires buffer { 0 < length buffer.old }
-    requires head { IsHead first.items told }
-    requires few { length first.items ≤ told }
+    requires head { IsHead first.items reported }
+    requires few { length first.items ≤ reported }
     ensures whole { IfOk result (λ image. IsReadOn first.items (R.remaining reader.old)
         (R.remaining reader.new) image.bytes.items) }
-    ensures few { IfOk result (λ image. length image.bytes.items ≤ told) }
+    ensures few { IfOk result (λ image. length image.bytes.items ≤ reported) }
     ensures end { IfOk result (λ _. IsAtEnd (R.remaining reader.new)) }
     ensures digest { IfOk result (λ image.
-        DecideAlike reading.entry.digest image.digest image.bytes.items) }
+        AgreeOnDigest reading.entry.digest image.digest image.bytes.items) }
     ensures endless { result ≡ Err (Read Endless)
         → GivesAtLeast reads (R.remaining reader.old) (R.remaining reader.new) }
-    ensures refused { IfErr result (IsRestRefusal first.items (R.remaining reader.old)) }
+    ensures rejected { IfErr result (IsRestError first.items (R.remaining reader.old)) }
     ensures longer { IfErr result IsForLength }
 {
-    let more = told.saturating_sub(first.len() as u64);
-    let begun = ImagePieces::begun(first, reading);
-    match read_past(reader, buffer, reads, begun, more) {
-        Ok(Front::Whole(pieces)) => Ok(pieces.whole(reading.digest)),
-        Ok(Front::More { .. }) => Err(ImageReadFault::Image(ImageFault::BadSection(9))),
+    let more = reported.saturating_sub(first.len() as u64);
+    let started = ImagePieces::started(first, reading);
+    match read_prefix(reader, buffer, reads, started, more) {
+        Ok(PrefixRead::Whole(pieces)) => Ok(pieces.whole(reading.digest)),
+        Ok(PrefixRead::More { .. }) => Err(ImageReadFault::Image(ImageFault::BadSection(9))),
         Err(fault) => Err(ImageReadFault::Read(fault)),
     }
 }
 
-/// The same bytes, with room for as many as are told where so many are known to come.
-fn with_room(mut bytes: Vec<u8>, told: u64, known: Option<u64>) -> Result<Vec<u8>, AllocError>
+/// Reserves capacity for `reported` bytes if the file is known to have that length.
+fn with_room(mut bytes: Vec<u8>, reported: u64, known: Option<u64>) -> Result<Vec<u8>, AllocError>
     ensures { IfOk result (λ roomy. roomy.items ≡ bytes.items) }
 {
-    if known == Some(told) {
-        bytes.reserve_exact((told as usize).saturating_sub(bytes.len()))?;
+    if known == Some(reported) {
+        bytes.reserve_exact((reported as usize).saturating_sub(bytes.len()))?;
     }
     Ok(bytes)
 }

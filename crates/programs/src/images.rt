@@ -1,16 +1,19 @@
-//! Dictionaries of images.
+//! Loading dictionaries from image files.
 
-ghost use Rattle.std.specs.Prelude.{◌≡◌, length, All, IfErr, IfOk, IfSome, string_bytes};
+ghost use Rattle.std.specs.Prelude.{◌≡◌, IfErr, IfOk, IfSome, string_bytes};
 ghost use Rattle.std.specs.Io.KnownBytes.{IsAtEnd};
-ghost use Rattle.image_bytes.specs.ImageFaults.{IsAccepted};
-ghost use Rattle.programs.specs.Faults.{NamesFileOrImage, NamesFileOrImageOf};
-ghost use Rattle.programs.specs.HashedImages.{DecideAlike};
-ghost use Rattle.programs.specs.ImageHeads.{IfRefused, IsJudgedAt, IsLoadRefusal, IsReadHead, IsRefusalAt, IsRefusalOfAFile, IsRefusedEarly};
+ghost use Rattle.image_format.specs.ImageFaults.{IsAccepted};
+ghost use Rattle.image_format.specs.declared.digest_test.DigestTest.TheVariants.{Skipped};
+ghost use Rattle.programs.specs.Faults.{NamesFileOrImage};
+ghost use Rattle.programs.specs.HashedImages.{AgreeOnDigest};
+ghost use Rattle.programs.specs.ImageHeads.{IfRejected, IsErrorOrLengthAt, IsLoadError, IsReadHead, IsErrorAt, IsErrorOfAFile, IsRejectedEarly};
+ghost use Rattle.programs.specs.LoadedImages.{AreLoaded, IsErrorOfOne};
 ghost use Rattle.programs.specs.Reading.{AreOfAFile};
 
 use crate::fault::Fault;
 use crate::image_reading::{ImageReadFault, ImageReading, ReadImage, read_image};
 use crate::progress::{Progress, ReadProgress};
+use crate::test_record::remaining_digest_test;
 use dict_image::{Dict, DigestTest};
 use mj_model::READS_MAX;
 use std::alloc::{AllocError, Global};
@@ -19,22 +22,25 @@ use std::io;
 use std::rt::Files;
 use std::string::String;
 
-/// The dictionary of the image at a path, while a terminal is told how much of it was read.
-///
-/// A file whose header is at fault, or whose length is not the one that it tells, is refused as
-/// `load_by` refuses its bytes, before memory for them is taken.
-pub fn dictionary_at(rt: &HostRuntime, path: &str, digest: DigestTest) -> Result<Dict, Fault>
-    ensures accepted { IfOk result (λ dict. IsAccepted digest dict) }
+/// Loads the dictionary of the image at `path`, with a progress line if standard error is a
+/// terminal. The checksum is not tested if the image has a record of its tests.
+pub fn load_dictionary(rt: &HostRuntime, path: &str, digest: DigestTest) -> Result<Dict, Fault>
+    ensures accepted { IfOk result (λ dict. IsAccepted Skipped dict) }
     ensures fault { IfErr result (NamesFileOrImage path.now) }
 {
     let progress = Progress::new(rt);
-    let loaded = load_at(rt, path, digest, &progress);
+    let remaining = remaining_digest_test(rt, path, digest);
+    let loaded = dictionary_at(rt, path, remaining, &progress);
     progress.erase();
     loaded
 }
 
-/// The same of some system's files, whose bytes are known.
-fn load_at<R: Files + AllocGlobal>(
+/// Loads the dictionary of the image at `path` from any file system, so that the contract can name
+/// the bytes of the file.
+///
+/// An image with an invalid header, or of another length than its header demands, is rejected with
+/// the error of `load_testing`, before memory for the whole is allocated.
+pub fn dictionary_at<R: Files + AllocGlobal>(
     rt: &R,
     path: &str,
     digest: DigestTest,
@@ -43,7 +49,7 @@ fn load_at<R: Files + AllocGlobal>(
     ensures bytes { IfOk result (λ dict. AreOfAFile R.File.remaining dict) }
     ensures accepted { IfOk result (λ dict. IsAccepted digest dict) }
     ensures fault { IfErr result (NamesFileOrImage path.now) }
-    ensures refused { IfErr result (IsLoadRefusal digest R.File.remaining) }
+    ensures rejected { IfErr result (IsLoadError digest R.File.remaining) }
 {
     let ImageFile { path, image } = image_at(rt, path, digest, progress)?;
     match image.load(rt.alloc()) {
@@ -52,32 +58,37 @@ fn load_at<R: Files + AllocGlobal>(
     }
 }
 
-/// The dictionaries of the images at paths, read one after the other, up to the first that can't be read or is refused.
-pub fn dictionaries_at(
-    rt: &HostRuntime,
+/// Loads the dictionaries of the images at `paths` with `load`, in order, and stops at the first
+/// error.
+pub fn dictionaries_at<L: Fn(&str, DigestTest) -> Result<Dict, Fault> + Drop>(
+    alloc: Global,
     paths: &[String],
     digest: DigestTest,
+    load: L,
 ) -> Result<Vec<Dict>, Fault>
-    ensures count { IfOk result (λ dicts. length dicts.items ≡ length paths.now) }
-    ensures accepted { IfOk result (λ dicts. All (IsAccepted digest) dicts.items) }
-    ensures fault { IfErr result (NamesFileOrImageOf paths.now) }
+    requires { L.IsAlwaysCallable load }
+    // Each dictionary is the result of `load` for its path.
+    ensures loaded { IfOk result
+        (λ dicts. AreLoaded (L.post load) digest paths.now dicts.items) }
+    ensures fault { IfErr result (IsErrorOfOne (L.post load) digest paths.now) }
 {
-    let mut dicts = Vec::new(rt.alloc());
+    let mut dicts = Vec::new(alloc);
     for path in paths {
-        let dict = dictionary_at(rt, path.as_str(), digest)?;
+        let dict = load(path.as_str(), digest)?;
         dicts.push(dict).map_err(AllocError::from)?;
     }
     Ok(dicts)
 }
 
-/// A file of an image that was read whole.
+/// An image file that was read whole.
 #[derive(Drop)]
 pub struct ImageFile {
     pub path: String,
     pub image: ReadImage,
 }
 
-/// The bytes of the image at a path, within `READS_MAX` reads. One whose header or length is at fault is not read further.
+/// Reads the image at `path` in at most `READS_MAX` reads. Stops after the first bytes if the
+/// header or the length is invalid.
 pub fn image_at<R: Files + AllocGlobal>(
     rt: &R,
     path: &str,
@@ -86,12 +97,12 @@ pub fn image_at<R: Files + AllocGlobal>(
 ) -> Result<ImageFile, Fault>
     ensures path { IfOk result (λ file. string_bytes file.path ≡ path.now) }
     ensures bytes { IfOk result (λ file. AreOfAFile R.File.remaining file.image.bytes.items) }
-    // The test of the digest that is left says what the one that was asked for says.
+    // The remaining checksum test and the requested one accept the same images.
     ensures digest { IfOk result (λ file.
-        DecideAlike digest file.image.digest file.image.bytes.items) }
+        AgreeOnDigest digest file.image.digest file.image.bytes.items) }
     ensures fault { IfErr result (NamesFileOrImage path.now) }
-    // It is refused only with the fault that the bytes have.
-    ensures refused { IfErr result (IsRefusalOfAFile R.File.remaining) }
+    // An image is rejected only with the error that its bytes have.
+    ensures rejected { IfErr result (IsErrorOfAFile R.File.remaining) }
 {
     let mut file = match fs::open(rt, path) {
         Ok(file) => file,
@@ -100,7 +111,7 @@ pub fn image_at<R: Files + AllocGlobal>(
     let known = length_of(&file);
     let reading = ImageReading {
         digest,
-        told: Some(ReadProgress {
+        reported: Some(ReadProgress {
             progress,
             path,
             all: known.unwrap_or(0),
@@ -109,7 +120,8 @@ pub fn image_at<R: Files + AllocGlobal>(
     image_from(rt.alloc(), path, &mut file, known, reading)
 }
 
-/// The same of what is left of a file that was opened at a path: `known` is how many bytes that is, where it is known.
+/// Reads the remainder of a file that was opened at `path` as an image. `known` is the number of
+/// remaining bytes, if known.
 pub fn image_from<F: io::Read>(
     alloc: Global,
     path: &str,
@@ -123,13 +135,13 @@ pub fn image_from<F: io::Read>(
     ensures end { IfOk result (λ _. IsAtEnd (F.remaining file.new)) }
     ensures head { IfOk result (λ read. IsReadHead read.image.bytes.items) }
     ensures digest { IfOk result (λ read.
-        DecideAlike reading.entry.digest read.image.digest read.image.bytes.items) }
+        AgreeOnDigest reading.entry.digest read.image.digest read.image.bytes.items) }
     ensures fault { IfErr result (NamesFileOrImage path.now) }
-    // The fault of an image is the one with which `read_image` refuses its bytes.
-    ensures refused { IfErr result (IfRefused (IsRefusalAt known (F.remaining file.old))) }
-    ensures judged { IfErr result (IfRefused (IsJudgedAt known (F.remaining file.old))) }
+    // An image is rejected with the error that `read_image` returns for its bytes.
+    ensures rejected { IfErr result (IfRejected (IsErrorAt known (F.remaining file.old))) }
+    ensures checked { IfErr result (IfRejected (IsErrorOrLengthAt known (F.remaining file.old))) }
     ensures early { IfErr result
-        (IfRefused (IsRefusedEarly (F.remaining file.old) (F.remaining file.new))) }
+        (IfRejected (IsRejectedEarly (F.remaining file.old) (F.remaining file.new))) }
 {
     match read_image(alloc, file, known, READS_MAX, reading) {
         Ok(image) => Ok(ImageFile {
@@ -141,7 +153,8 @@ pub fn image_from<F: io::Read>(
     }
 }
 
-/// How many bytes an opened file has, where it is a regular one: no other file tells it.
+/// Returns the length of an opened file in bytes if it is a regular one. Other files don't have a
+/// known length.
 fn length_of<F: OpenFile>(file: &F) -> Option<u64> {
     match file.metadata() {
         Ok(found) if found.is_file() => Some(found.len()),

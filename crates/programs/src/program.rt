@@ -1,20 +1,25 @@
-//! A program from its command line to its exit status.
+//! The run of a program from its command line to its exit status.
 
-use crate::early_end::EarlyEnd;
+ghost use Rattle.std.specs.Prelude.{Ok};
+ghost use Rattle.std.specs.Process.{exit_status};
+ghost use Rattle.programs.specs.Statuses.{IsCommandStatus, IsOptionsStatus, IsProgramStatus};
+
 use crate::fault::Fault;
 use crate::output::write_whole;
-use command_lines::{OptionsFault, words_given};
+use crate::termination::Termination;
+use command_lines::OptionsFault;
 use std::process::ExitCode;
 use std::string::String;
 
-/// Reads the command line of the program of this name and does what it asks for; tells what ends it early, and then what there is to say
-/// of that.
-pub fn run_program<O: Drop, E: EarlyEnd + Drop, R, W, S>(
+/// Parses the words of a command line with `read` and runs the command with `work`. An error is
+/// reported first, and `print_hints` then prints the hints for it. Returns the exit status.
+pub fn run_program<O: Drop, E: Termination + Drop, R, W, S>(
     rt: &HostRuntime,
     program: &str,
+    words: Result<Vec<String>, OptionsFault>,
     read: R,
     work: W,
-    say_more: S,
+    print_hints: S,
 ) -> ExitCode
 where
     R: Fn(&HostRuntime, Vec<String>) -> Result<O, OptionsFault> + Drop,
@@ -22,25 +27,69 @@ where
     S: Fn(&HostRuntime, &O, &E) + Drop,
     requires read { R.IsAlwaysCallable read }
     requires work { W.IsAlwaysCallable work }
-    requires say_more { S.IsAlwaysCallable say_more }
+    requires print_hints { S.IsAlwaysCallable print_hints }
+    // The command of these words ended with a result that has this status.
+    ensures status { IsProgramStatus E.status (R.post read rt.entry) (W.post work rt.entry)
+        words (exit_status result) }
 {
-    let options = words_given(rt, program).and_then(|words| read(rt, words));
-    let status = match options {
-        Ok(options) => match work(rt, &options) {
-            Ok(()) => 0,
-            Err(end) => {
-                let status = end.tell(rt, program);
-                say_more(rt, &options, &end);
-                status
-            }
-        },
-        Err(fault) => tell(rt, program, &fault),
-    };
-    ExitCode::from(status)
+    match words {
+        Ok(words) => run_parsed(rt, program, read(rt, words), work, print_hints),
+        Err(fault) => ExitCode::from(print_options_error(rt, program, &fault)),
+    }
 }
 
-/// Prints why there is nothing to do, and answers the exit status: that of `Fault::Output` where help can't be printed.
-fn tell(rt: &HostRuntime, program: &str, fault: &OptionsFault) -> u8 {
+/// Runs a command that was parsed, or reports the error in the command line. Returns the exit
+/// status.
+fn run_parsed<O: Drop, E: Termination + Drop, W, S>(
+    rt: &HostRuntime,
+    program: &str,
+    parsed: Result<O, OptionsFault>,
+    work: W,
+    print_hints: S,
+) -> ExitCode
+where
+    W: Fn(&HostRuntime, &O) -> Result<(), E> + Drop,
+    S: Fn(&HostRuntime, &O, &E) + Drop,
+    requires work { W.IsAlwaysCallable work }
+    requires print_hints { S.IsAlwaysCallable print_hints }
+    ensures { IsCommandStatus E.status (W.post work rt.entry) parsed (exit_status result) }
+{
+    match parsed {
+        Ok(command) => ExitCode::from(run(rt, program, &command, work, print_hints)),
+        Err(fault) => ExitCode::from(print_options_error(rt, program, &fault)),
+    }
+}
+
+/// Runs a command with `work`. Returns the exit status: 0, or that of the error, which is reported.
+fn run<O, E: Termination + Drop, W, S>(
+    rt: &HostRuntime,
+    program: &str,
+    command: &O,
+    work: W,
+    print_hints: S,
+) -> u8
+where
+    W: Fn(&HostRuntime, &O) -> Result<(), E> + Drop,
+    S: Fn(&HostRuntime, &O, &E) + Drop,
+    requires work { W.IsAlwaysCallable work }
+    requires print_hints { S.IsAlwaysCallable print_hints }
+    ensures { IsCommandStatus E.status (W.post work rt.entry) (Ok command.now) result }
+{
+    match work(rt, command) {
+        Ok(()) => 0,
+        Err(error) => {
+            let status = error.print(rt, program);
+            print_hints(rt, command, &error);
+            status
+        }
+    }
+}
+
+/// Prints help or the error in the command line. Returns the exit status: that of `Fault::Output`
+/// if help can't be printed.
+fn print_options_error(rt: &HostRuntime, program: &str, fault: &OptionsFault) -> u8
+    ensures { IsOptionsStatus fault.now result }
+{
     let fault = match fault {
         OptionsFault::Help(text) if write_whole(&mut rt.stdout(), text.as_bytes()).is_err() =>
             Fault::Output,
@@ -51,5 +100,5 @@ fn tell(rt: &HostRuntime, program: &str, fault: &OptionsFault) -> u8 {
             return fault.status();
         }
     };
-    fault.tell(rt, program)
+    fault.print(rt, program)
 }

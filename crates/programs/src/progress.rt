@@ -1,32 +1,34 @@
-//! How far the reading of a file is, on a terminal.
+//! The progress line on a terminal while a file is read or a text is segmented.
 
-use crate::beginning::Beginning;
+use crate::excerpt::Excerpt;
 use crate::output::write_whole;
 use std::cell::Cell;
 use std::fmt::{self, Display, Formatter, Write};
 use std::io::IsTerminal;
 use std::time::{Duration, Instant};
 
-/// How many seconds a reading lasts before it is told.
-const PATIENCE: u64 = 2;
+/// Time before the first progress line, in seconds.
+const DELAY_SECONDS: u64 = 2;
 
-/// How many milliseconds a line stands before it is written anew.
-const PAUSE: u64 = 250;
+/// Minimum time between two updates of the line, in milliseconds.
+const REFRESH_MILLISECONDS: u64 = 250;
 
-/// How many characters of a path are told at most, so that the line is one of the terminal's.
+/// Maximum number of characters of a path, so that the progress fits in one line of a terminal.
 const PATH_MAX: usize = 40;
 
-/// Tells how far a reading is, in one line of standard error that is written anew at most four times a second: on a terminal alone, and only
-/// after two seconds. A failed write is ignored.
+/// Shows the progress of a long step in one line of standard error, which is updated at most four
+/// times a second. It appears only on a terminal, and only after two seconds. A failed write is
+/// ignored.
 #[derive(Drop)]
 pub struct Progress<'a> {
     rt: &'a HostRuntime,
-    /// When a line may be written; None where none is told.
+    /// Time of the next update; None if standard error is not a terminal.
     next: Cell<Option<Instant>>,
     is_shown: Cell<bool>,
 }
 
-/// Who is told how much of a file was read: the path of the file, and its length, or 0 where that is not known.
+/// The progress of reading the file at `path`. `all` is its length in bytes, or 0 if it is not
+/// known.
 #[derive(Clone, Copy)]
 pub struct ReadProgress<'a> {
     pub progress: &'a Progress<'a>,
@@ -34,32 +36,33 @@ pub struct ReadProgress<'a> {
     pub all: u64,
 }
 
-/// How many bytes of a file were read, of how many; 0 where that is not known.
+/// Displays the number of bytes read of a file. `all` is its length in bytes, or 0 if it is not
+/// known.
 #[derive(Clone, Copy)]
-struct ReadSoFar<'a> {
+struct BytesRead<'a> {
     path: &'a str,
     bytes: u64,
     all: u64,
 }
 
 impl<'a> Progress<'a> {
-    /// The progress of a reading that begins now.
+    /// Starts the progress of a step.
     pub fn new(rt: &'a HostRuntime) -> Progress<'a> {
-        let begun = if rt.stderr().is_terminal() {
+        let started = if rt.stderr().is_terminal() {
             Instant::now(rt).ok()
         } else {
             None
         };
         Progress {
             rt,
-            next: Cell::new(begun.and_then(|begun| begun.checked_add(Duration::from_secs(
-                PATIENCE,
+            next: Cell::new(started.and_then(|started| started.checked_add(Duration::from_secs(
+                DELAY_SECONDS,
             )))),
             is_shown: Cell::new(false),
         }
     }
 
-    /// Erases what was told: what was read is done with.
+    /// Erases the line, after the step.
     pub fn erase(&self) {
         if self.is_shown.get() {
             self.is_shown.set(false);
@@ -67,8 +70,8 @@ impl<'a> Progress<'a> {
         }
     }
 
-    /// Tells how far the reading is, where it is time to.
-    fn tell(&self, read: ReadSoFar<'_>) {
+    /// Replaces the line by `line` if enough time has passed.
+    pub fn show<T: Display>(&self, line: &T) {
         let Some(next) = self.next.get() else {
             return;
         };
@@ -76,23 +79,23 @@ impl<'a> Progress<'a> {
             return;
         };
         if now >= next {
-            self.next.set(now.checked_add(Duration::from_millis(PAUSE)));
-            self.write(read);
+            self.next.set(now.checked_add(Duration::from_millis(REFRESH_MILLISECONDS)));
+            self.write(line);
         }
     }
 
-    fn write(&self, read: ReadSoFar<'_>) {
-        if let Ok(line) = format!(in self.rt.alloc(); "\r{read}\u{1b}[K") {
+    fn write<T: Display>(&self, line: &T) {
+        if let Ok(text) = format!(in self.rt.alloc(); "\r{line}\u{1b}[K") {
             self.is_shown.set(true);
-            let _ = write_whole(&mut self.rt.stderr(), line.as_bytes());
+            let _ = write_whole(&mut self.rt.stderr(), text.as_bytes());
         }
     }
 }
 
 impl ReadProgress<'_> {
-    /// Tells that so many bytes were read, where it is time to.
-    pub fn tell(&self, bytes: u64) {
-        self.progress.tell(ReadSoFar {
+    /// Updates the line with the number of bytes read, if enough time has passed.
+    pub fn report_progress(&self, bytes: u64) {
+        self.progress.show(&BytesRead {
             path: self.path,
             bytes,
             all: self.all,
@@ -100,10 +103,10 @@ impl ReadProgress<'_> {
     }
 }
 
-impl Display for ReadSoFar<'_> {
+impl Display for BytesRead<'_> {
     fn fmt<W: Write>(&self, f: &mut Formatter<W>) -> fmt::Result {
-        let ReadSoFar { path, bytes, all } = *self;
-        let path = Beginning {
+        let BytesRead { path, bytes, all } = *self;
+        let path = Excerpt {
             text: path,
             most: PATH_MAX,
         };

@@ -1,24 +1,22 @@
-//! The bytes of a reader that ends.
+//! Reading a whole reader, with a limit on the number of reads.
 
-ghost use Rattle.std.specs.Prelude.{◌≡◌, ℕ, ◌<◌, ◌≤◌, ◌^◌, ◌++◌, List, Err, IfOk, IfSome, length, vec_len};
+ghost use Rattle.std.specs.Prelude.{◌≡◌, ℕ, ◌<◌, ◌++◌, List, Err, IfOk, IfSome, length};
 ghost use Rattle.std.specs.Io.KnownBytes.{IsAtEnd};
 ghost use Rattle.programs.specs.Reading.{GivesAtLeast};
 ghost use Rattle.programs.specs.declared.reading.ReadFault.TheVariants.{Endless, Memory};
 
+use line_stream::new_buffer;
 use std::alloc::{AllocError, Global};
 use std::io::{self, Read};
 
-/// How many bytes are read at once.
-const BUFFER: usize = 65_536;
-
-/// Why a reader's bytes can't be had.
+/// Why reading the bytes of a reader failed.
 #[derive(Debug, Drop)]
 pub enum ReadFault {
     /// A read failed.
     Device(io::Error),
-    /// As many reads as were allowed came to no end.
+    /// The reader did not end within the allowed number of reads.
     Endless,
-    /// Memory was refused.
+    /// An allocation failed.
     Memory,
 }
 
@@ -30,19 +28,19 @@ impl From<AllocError> for ReadFault {
     }
 }
 
-/// What takes bytes as they come, in pieces of any lengths.
-pub trait Pieces {
-    /// It was given these bytes.
-    ghost given: { Self → List ℕ → Type 0 };
+/// A sink that takes bytes in pieces of any length.
+pub trait ByteSink {
+    /// The sink has received exactly these bytes.
+    ghost received: { Self → List ℕ → Type 0 };
 
-    /// After a further piece.
+    /// Appends `piece` to the received bytes.
     fn with(self, piece: &[u8]) -> Result<Self, AllocError>
-        ensures { (bytes : List ℕ) → given self bytes
-            → IfOk result (λ taken. given taken (bytes ++ piece.now)) };
+        ensures { (bytes : List ℕ) → received self bytes
+            → IfOk result (λ taken. received taken (bytes ++ piece.now)) };
 }
 
-impl Pieces for Vec<u8> {
-    ghost given = { λ v bytes. v.items ≡ bytes };
+impl ByteSink for Vec<u8> {
+    ghost received = { λ v bytes. v.items ≡ bytes };
 
     fn with(mut self, piece: &[u8]) -> Result<Vec<u8>, AllocError> {
         self.extend_from_slice(piece)?;
@@ -50,27 +48,28 @@ impl Pieces for Vec<u8> {
     }
 }
 
-/// The bytes of a reader that ends within so many reads.
+/// Reads `reader` to its end in at most `reads` reads. The read that finds the end counts.
 pub fn read_whole<R: Read>(alloc: Global, reader: &mut R, reads: u64) -> Result<Vec<u8>, ReadFault>
     ensures whole { IfOk result (λ bytes.
         IfSome (R.remaining reader.old) (λ known. bytes.items ≡ known)) }
     ensures end { IfOk result (λ _. IsAtEnd (R.remaining reader.new)) }
-    // It is called endless only where each of the reads gave a byte at least.
+    // `Endless` is returned only if each of the reads gave at least one byte.
     ensures endless { result ≡ Err Endless
         → GivesAtLeast reads (R.remaining reader.old) (R.remaining reader.new) }
 {
     read_into(alloc, reader, reads, Vec::new(alloc))
 }
 
-/// Gives the bytes of a reader that ends within so many reads, one read after another.
-pub fn read_into<R: Read, P: Pieces + Drop>(
+/// Reads `reader` to its end in at most `reads` reads and appends its bytes to `pieces`, read by
+/// read.
+pub fn read_into<R: Read, P: ByteSink + Drop>(
     alloc: Global,
     reader: &mut R,
     reads: u64,
     pieces: P,
 ) -> Result<P, ReadFault>
-    ensures whole { (before : List ℕ) → P.given pieces before → IfOk result (λ taken.
-        IfSome (R.remaining reader.old) (λ known. P.given taken (before ++ known))) }
+    ensures whole { (before : List ℕ) → P.received pieces before → IfOk result (λ taken.
+        IfSome (R.remaining reader.old) (λ known. P.received taken (before ++ known))) }
     ensures end { IfOk result (λ _. IsAtEnd (R.remaining reader.new)) }
     ensures endless { result ≡ Err Endless
         → GivesAtLeast reads (R.remaining reader.old) (R.remaining reader.new) }
@@ -79,22 +78,16 @@ pub fn read_into<R: Read, P: Pieces + Drop>(
     read_through(reader, &mut buffer, reads, pieces)
 }
 
-pub(crate) fn new_buffer(alloc: Global) -> Result<Vec<u8>, AllocError>
-    ensures { IfOk result (λ buffer. (0 < vec_len buffer) × (vec_len buffer ≤ 2 ^ 16)) }
-{
-    vec![in alloc; 0; BUFFER]
-}
-
-/// The same by a buffer.
-fn read_through<R: Read, P: Pieces + Drop>(
+/// Reads as `read_into` does, through a given buffer.
+fn read_through<R: Read, P: ByteSink + Drop>(
     reader: &mut R,
     buffer: &mut [u8],
     reads: u64,
     pieces: P,
 ) -> Result<P, ReadFault>
     requires buffer { 0 < length buffer.old }
-    ensures whole { (before : List ℕ) → P.given pieces before → IfOk result (λ taken.
-        IfSome (R.remaining reader.old) (λ known. P.given taken (before ++ known))) }
+    ensures whole { (before : List ℕ) → P.received pieces before → IfOk result (λ taken.
+        IfSome (R.remaining reader.old) (λ known. P.received taken (before ++ known))) }
     ensures end { IfOk result (λ _. IsAtEnd (R.remaining reader.new)) }
     ensures endless { result ≡ Err Endless
         → GivesAtLeast reads (R.remaining reader.old) (R.remaining reader.new) }

@@ -1,24 +1,24 @@
-//! The line that a program ends with on standard error, and the exit status.
+//! The line on standard error that ends a failed program, and its exit status.
 
 ghost use Rattle.std.specs.Prelude.{◌≡◌};
 ghost use Rattle.programs.specs.Statuses.{status_of};
 
 use crate::fault::{Fault, belongs_to_a_file};
-use crate::output::Printed;
-use command_lines::OneLine;
+use crate::output::TextWriter;
+use command_lines::EscapedLine;
 use mj_model::{FormatFault, ImageFault, NamedFault, RunFault, SourceFault, SourceKind};
 use std::alloc::Global;
 use std::fmt::{self, Display, Formatter, Write};
 use std::io;
 use std::string::String;
 
-/// Writes the fault's line, in one write where memory for it is given, and answers the status.
+/// Prints the error in one line and returns the exit status.
 ///
-/// A failed write of it is ignored.
+/// The line is written in one call if it can be allocated. A failed write is ignored.
 pub fn report<W: io::Write>(alloc: Global, program: &str, fault: &Fault, err: &mut W) -> u8
     ensures status { result ≡ status_of fault.now }
 {
-    let mut err = Printed(err);
+    let mut err = TextWriter(err);
     let _ = match format!(in alloc; "{program}: {fault}\n") {
         Ok(line) => err.write_str(line.as_str()),
         Err(_) => writeln!(err, "{program}: {fault}"),
@@ -26,16 +26,17 @@ pub fn report<W: io::Write>(alloc: Global, program: &str, fault: &Fault, err: &m
     status(fault)
 }
 
-/// The line behind the program's name. The path is left out where the fault belongs to no file.
+/// Displays the line after the program's name. The path is left out if the error belongs to no
+/// file.
 impl Display for Fault {
     fn fmt<W: Write>(&self, f: &mut Formatter<W>) -> fmt::Result {
         match self {
             Fault::File(path) => {
                 write_path(f, path)?;
-                write_words(f, self)
+                write_code_and_name(f, self)
             }
             Fault::Source(path, SourceFault { line, kind, .. }) if belongs_to_a_file(*kind) => {
-                write!(f, "{}:{line}: {kind}", OneLine(path.as_str()))
+                write!(f, "{}:{line}: {kind}", EscapedLine(path.as_str()))
             }
             Fault::Source(_, SourceFault { kind, .. }) | Fault::Sources(SourceFault { kind, .. }) =>
                 { kind.fmt(f) }
@@ -50,26 +51,26 @@ impl Display for Fault {
             }
             Fault::Format(fault) => fault.fmt(f),
             Fault::Run(fault) => fault.fmt(f),
-            Fault::Output => write_words(f, self),
+            Fault::Output => write_code_and_name(f, self),
         }
     }
 }
 
-/// Writes the path of a file, before what is wrong with it.
+/// Writes the path that precedes the description of an error.
 fn write_path<W: Write>(f: &mut Formatter<W>, path: &String) -> fmt::Result {
-    OneLine(path.as_str()).fmt(f)?;
+    EscapedLine(path.as_str()).fmt(f)?;
     f.write_str(": ")
 }
 
-/// Writes the code of a fault and its name.
-fn write_words<W: Write>(f: &mut Formatter<W>, fault: &Fault) -> fmt::Result {
+/// Writes the code and the name of an error.
+fn write_code_and_name<W: Write>(f: &mut Formatter<W>, fault: &Fault) -> fmt::Result {
     f.write_str(fault.code())?;
     f.write_char(' ')?;
     f.write_str(fault.name())
 }
 
-/// 1 for a refused source, image, overlay or text, 2 for a refused format, 3 for a file or device,
-/// 4 for memory.
+/// Returns the exit status: 1 for a rejected source, image, overlay or text, 2 for a rejected
+/// format, 3 for a file or device, 4 for memory.
 fn status(fault: &Fault) -> u8
     ensures { result ≡ status_of fault.now }
 {

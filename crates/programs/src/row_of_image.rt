@@ -7,7 +7,8 @@ use itoa::Buffer;
 use std::alloc::{AllocError, Global};
 use std::string::String;
 
-/// The row of an image: its name, its size in bytes, its entries or its fault, and its path, by tabs.
+/// Returns the row of an image, its fields separated by tabs: name, size in bytes, number of
+/// entries or error, and path.
 pub fn image_row(
     alloc: Global,
     name: &str,

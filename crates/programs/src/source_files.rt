@@ -4,13 +4,14 @@ ghost use Rattle.std.specs.Prelude.{◌≡◌, ◌⊎◌, ◌-◌, ◌≤◌, �
 ghost use Rattle.mj_model.specs.declared.source_fault.TheConstants.{CHAR_FILE as CharFile, FIRST_LEXICON_FILE as FirstLexiconFile, MATRIX_FILE as MatrixFile, NO_FILE as NoFile, UNK_FILE as UnkFile};
 ghost use Rattle.programs.specs.Paths.{IsFound, IsLexiconPath, IsPathOf};
 
-use crate::narrator::Narrator;
+use crate::reporter::Reporter;
 use crate::whole_file::WholeFile;
 use mj_model::{CHAR_FILE, FIRST_LEXICON_FILE, MATRIX_FILE, NO_FILE, UNK_FILE};
 use std::string::String;
 
-/// The source files of a system dictionary: the path of `matrix.def`, which need not be in memory as a whole, and the others, which are. The
-/// lexicons stand in the order in which they are read.
+/// The source files of a system dictionary: the path of `matrix.def`, which need not be held in
+/// memory as a whole, and the contents of the other files. The lexicons are in the order in which
+/// they are read.
 #[derive(Drop)]
 pub struct SourceFiles {
     pub matrix: String,
@@ -20,7 +21,8 @@ pub struct SourceFiles {
 }
 
 impl SourceFiles {
-    /// The path of the file with a number, which a source's fault tells; None where no file has it.
+    /// Returns the path of the file with this number in a `SourceFault`; None if there is no such
+    /// file.
     pub fn path(&self, number: u32) -> Option<&str>
         ensures matrix { number ≡ MatrixFile → IsFound (string_bytes self.now.matrix) result }
         ensures chars { number ≡ CharFile → IsPathOf self.now.chars result }
@@ -37,18 +39,20 @@ impl SourceFiles {
         }
     }
 
-    /// Says that each was read: `matrix.def`, which has so many bytes and begins with these, and the others.
-    pub fn say(&self, narrator: &Narrator<'_>, bytes: usize, first: &[u8]) {
-        narrator.say_read(self.matrix.as_str(), bytes, first);
-        narrator.say_source(&self.chars);
-        narrator.say_source(&self.unk);
+    /// Logs that each file was read. `bytes` is the size of `matrix.def` and `first` its first
+    /// bytes.
+    pub fn log(&self, reporter: &Reporter<'_>, bytes: usize, first: &[u8]) {
+        reporter.log_read(self.matrix.as_str(), bytes, first);
+        reporter.log_source(&self.chars);
+        reporter.log_source(&self.unk);
         for lexicon in &self.lexicons {
-            narrator.say_source(lexicon);
+            reporter.log_source(lexicon);
         }
     }
 }
 
-/// The path of the lexicon with a number, counted from `FIRST_LEXICON_FILE`; None where there is none.
+/// Returns the path of the lexicon with this file number, which starts at `FIRST_LEXICON_FILE`;
+/// None if there is none.
 pub fn lexicon_path(lexicons: &[WholeFile], number: u32) -> Option<&str>
     ensures lexicon { FirstLexiconFile ≤ number → number < NoFile
         → IsLexiconPath lexicons.now (number - FirstLexiconFile) result }

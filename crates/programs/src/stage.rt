@@ -1,9 +1,9 @@
-//! The steps of a program's work, as `-v` tells them.
+//! Log messages on the progress of a program, printed with `-v`.
 
-use command_lines::OneLine;
+use command_lines::EscapedLine;
 use std::fmt::{self, Display, Formatter, Write};
 
-/// A step of a program's work. Sizes are in bytes.
+/// A completed or started step of a program. Sizes are in bytes.
 #[derive(Clone, Copy)]
 pub enum Stage<'a> {
     /// A file was read.
@@ -15,41 +15,41 @@ pub enum Stage<'a> {
     ByteOrderMark {
         path: &'a str,
     },
-    /// An image was tested and loaded.
+    /// An image was checked and loaded.
     Loaded {
         path: &'a str,
     },
-    /// The compilation begins, of so many lexicons.
+    /// The compilation of this number of lexicons starts.
     Compiling {
         lexicons: usize,
     },
-    /// The connection costs were read, for so many right ids and left ids.
+    /// The connection costs were read, for these numbers of right ids and left ids.
     CostsRead {
         right: u32,
         left: u32,
     },
-    /// The categories were read.
+    /// The character categories were read.
     CategoriesRead {
         categories: usize,
     },
     /// The unknown words of all categories were read.
     UnknownRead,
-    /// A lexicon was read. With those before it there are so many entries.
+    /// A lexicon was read. `entries` counts the entries of all lexicons read so far.
     LexiconRead {
         path: &'a str,
         entries: u64,
     },
-    /// The entries were sorted by their surfaces.
+    /// The entries were sorted by surface.
     Sorted {
         entries: u64,
     },
-    /// No surface of the lexicons has more bytes than the one in this line.
+    /// The longest surface of the lexicons, in bytes, and the first line that has it.
     LongestSurface {
         bytes: usize,
         path: &'a str,
         line: u64,
     },
-    /// It ended, with so many entries and an image of so many bytes.
+    /// The compilation ended.
     Compiled {
         entries: u64,
         bytes: usize,
@@ -59,7 +59,7 @@ pub enum Stage<'a> {
         path: &'a str,
         bytes: usize,
     },
-    /// A section of an image has so many bytes, and this share of the image in percent.
+    /// The size of a section of the image, and its share of the image in percent.
     Share {
         section: &'a str,
         bytes: u64,
@@ -69,25 +69,30 @@ pub enum Stage<'a> {
     NoEntry {
         feature: &'a str,
     },
-    /// The text was cut, of so many lines.
-    Cut {
+    /// The text was segmented, this number of lines.
+    Segment {
         lines: u64,
     },
 }
 
-/// What is told of a source that begins with one.
-const BYTE_ORDER_MARK: &str = " begins with a byte order mark, which counts as text";
+/// Text of the log message for a source that begins with a byte order mark.
+const BYTE_ORDER_MARK: &str = ": the file starts with a byte order mark, which counts as text";
 
 impl Display for Stage<'_> {
     fn fmt<W: Write>(&self, f: &mut Formatter<W>) -> fmt::Result {
         match *self {
             Stage::Read { path, bytes } => write_file(f, "read", path, bytes),
-            Stage::ByteOrderMark { path } => write_named(f, "", path, BYTE_ORDER_MARK),
+            Stage::ByteOrderMark { path } => write_named(f, "warning: ", path, BYTE_ORDER_MARK),
             Stage::Loaded { path } => write_named(f, "loaded ", path, ""),
             Stage::Compiling { lexicons } => write_count(f, "compiling ", lexicons, " lexicons"),
             Stage::CostsRead { right, left } => write_ids(f, right, left),
-            Stage::CategoriesRead { categories } => write_count(f, "", categories, " categories"),
-            Stage::UnknownRead => f.write_str("unknown words"),
+            Stage::CategoriesRead { categories } => write_count(
+                f,
+                "read ",
+                categories,
+                " character categories",
+            ),
+            Stage::UnknownRead => f.write_str("read unknown words"),
             Stage::LexiconRead { path, entries } => write_entries(f, path, entries),
             Stage::Sorted { entries } => write_count(f, "sorted ", entries, " entries"),
             Stage::LongestSurface { bytes, path, line } => write_longest(f, bytes, path, line),
@@ -98,15 +103,15 @@ impl Display for Stage<'_> {
                 bytes,
                 percent,
             } => write_share(f, section, bytes, percent),
-            Stage::NoEntry { feature } => write_named(f, "no entry fits '", feature, "'"),
-            Stage::Cut { lines } => write_count(f, "cut ", lines, " lines"),
+            Stage::NoEntry { feature } => write_named(f, "no entry matches '", feature, "'"),
+            Stage::Segment { lines } => write_count(f, "segmented ", lines, " lines"),
         }
     }
 }
 
-/// Writes what was done with a file, its path and its bytes.
+/// Writes the action `done`, the path of its file and the number of bytes.
 fn write_file<W: Write>(f: &mut Formatter<W>, done: &str, path: &str, bytes: usize) -> fmt::Result {
-    write!(f, "{done} {}: {bytes} bytes", OneLine(path))
+    write!(f, "{done} {}: {bytes} bytes", EscapedLine(path))
 }
 
 /// Writes a path or a feature between two texts.
@@ -114,11 +119,11 @@ fn write_named<W: Write>(
     f: &mut Formatter<W>,
     before: &str,
     name: &str,
-    behind: &str,
+    following: &str,
 ) -> fmt::Result {
     f.write_str(before)?;
-    OneLine(name).fmt(f)?;
-    f.write_str(behind)
+    EscapedLine(name).fmt(f)?;
+    f.write_str(following)
 }
 
 /// Writes a number between two texts.
@@ -126,27 +131,27 @@ fn write_count<N: Display + Drop, W: Write>(
     f: &mut Formatter<W>,
     before: &str,
     number: N,
-    behind: &str,
+    following: &str,
 ) -> fmt::Result {
     f.write_str(before)?;
     write!(f, "{number}")?;
-    f.write_str(behind)
+    f.write_str(following)
 }
 
-/// Writes how many right ids and left ids connection costs are for.
+/// Writes the numbers of right ids and left ids of the connection costs.
 fn write_ids<W: Write>(f: &mut Formatter<W>, right: u32, left: u32) -> fmt::Result {
     write!(
         f,
-        "connection costs of {right} right ids and {left} left ids"
+        "read connection costs: {right} right ids, {left} left ids"
     )
 }
 
-/// Writes how many entries there are with those of a lexicon.
+/// Writes the number of entries up to and including the lexicon at `path`.
 fn write_entries<W: Write>(f: &mut Formatter<W>, path: &str, entries: u64) -> fmt::Result {
-    write!(f, "{entries} entries up to {}", OneLine(path))
+    write!(f, "{entries} entries after reading {}", EscapedLine(path))
 }
 
-/// Writes how long the longest surface is, and where it stands.
+/// Writes the length of the longest surface, and the line and file that it is in.
 fn write_longest<W: Write>(
     f: &mut Formatter<W>,
     bytes: usize,
@@ -156,16 +161,16 @@ fn write_longest<W: Write>(
     write!(
         f,
         "longest surface: {bytes} bytes, in line {line} of {}",
-        OneLine(path)
+        EscapedLine(path)
     )
 }
 
-/// Writes how many entries were compiled, and to how many bytes.
+/// Writes the number of compiled entries and the size of the image.
 fn write_compiled<W: Write>(f: &mut Formatter<W>, entries: u64, bytes: usize) -> fmt::Result {
     write!(f, "compiled {entries} entries to {bytes} bytes")
 }
 
-/// Writes how many bytes of an image a section has.
+/// Writes the size of a section and its share of the image.
 fn write_share<W: Write>(
     f: &mut Formatter<W>,
     section: &str,

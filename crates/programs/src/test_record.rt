@@ -1,9 +1,10 @@
-//! Records of tests: a file beside an installed image that names the image's file and says that it passed all tests.
+//! Records of tests: a file beside an installed image that identifies the image's file and states
+//! that it passed all tests.
 
 ghost use Rattle.std.specs.Prelude.{◌≡◌, ◌⊎◌};
-ghost use Rattle.image_bytes.specs.declared.digest_test.DigestTest.TheVariants.{Skipped};
+ghost use Rattle.image_format.specs.declared.digest_test.DigestTest.TheVariants.{Skipped};
 
-use crate::surroundings::Surroundings;
+use crate::environment::Environment;
 use crate::whole_file::WholeFile;
 use dict_image::DigestTest;
 use std::alloc::{AllocError, Global};
@@ -16,12 +17,13 @@ use std::string::String;
 /// A record has fewer bytes than this.
 const RECORD_MAX: u64 = 512;
 
-/// The bytes after the last label of a record: the SHA-256 of the image in hexadecimal digits, and a line feed.
+/// Number of bytes after the last label of a record: the SHA-256 of the image in hexadecimal
+/// digits, and a line feed.
 const DIGITS: usize = 65;
 
-/// Returns the test of the digest that is left to make of the image at `path`: none if it is an installed image with a record of its
-/// tests, and else `digest`.
-pub fn digest_left(rt: &HostRuntime, path: &str, digest: DigestTest) -> DigestTest
+/// Returns the checksum test that remains to be made for the image at `path`: none if it is an
+/// installed image with a record of its tests, otherwise `digest`.
+pub(crate) fn remaining_digest_test(rt: &HostRuntime, path: &str, digest: DigestTest) -> DigestTest
     ensures { (result ≡ digest) ⊎ (result ≡ Skipped) }
 {
     if has_record(rt, path) {
@@ -31,24 +33,13 @@ pub fn digest_left(rt: &HostRuntime, path: &str, digest: DigestTest) -> DigestTe
     }
 }
 
-/// Returns the test of the digest that is left to make of the images at `paths`: none if each has a record, and else `digest`.
-pub fn digest_left_of_all(rt: &HostRuntime, paths: &[String], digest: DigestTest) -> DigestTest
-    ensures { (result ≡ digest) ⊎ (result ≡ Skipped) }
-{
-    for path in paths {
-        if !has_record(rt, path.as_str()) {
-            return digest;
-        }
-    }
-    DigestTest::Skipped
-}
-
-/// Returns whether an image lies in an image directory beside a record that names its file. If memory is short, it counts as having none.
+/// Returns whether an image lies in an image directory beside a record of its file. Returns false
+/// if an allocation fails.
 fn has_record(rt: &HostRuntime, path: &str) -> bool {
     !is_distrusted(rt) && is_recorded(rt, path).is_ok_and(|recorded| recorded)
 }
 
-/// Returns whether the environment says that no record counts.
+/// Returns whether the environment variable `KUMQUATSIEVE_TRUST` disables all records.
 fn is_distrusted(rt: &HostRuntime) -> bool {
     env::var(rt, "KUMQUATSIEVE_TRUST").is_ok_and(|trust| trust.as_str() == "never")
 }
@@ -65,13 +56,13 @@ fn is_recorded(rt: &HostRuntime, path: &str) -> Result<bool, AllocError> {
     Ok(holds_record(rt, record.as_str(), front.as_str()))
 }
 
-/// Returns whether a path names a file in one of the image directories.
+/// Returns whether `path` names a file directly in one of the image directories.
 fn is_installed(rt: &HostRuntime, path: &str) -> Result<bool, AllocError> {
     let Some(folder) = Path::new(path).parent() else {
         return Ok(false);
     };
-    let homes = Surroundings::here(rt)?.homes(rt.alloc())?;
-    for home in &homes {
+    let image_dirs = Environment::here(rt)?.image_dirs(rt.alloc())?;
+    for home in &image_dirs {
         if home.as_str() == folder.as_str() {
             return Ok(true);
         }
@@ -79,7 +70,7 @@ fn is_installed(rt: &HostRuntime, path: &str) -> Result<bool, AllocError> {
     Ok(false)
 }
 
-/// Returns the path of the record of an image: `NAME.tested` of `NAME.img`.
+/// Returns the path of the record of an image: `NAME.tested` for `NAME.img`.
 fn record_path(alloc: Global, path: &str) -> Result<String, AllocError> {
     let stem = path.strip_suffix(".img").unwrap_or(path);
     let mut record = String::from_str(alloc, stem)?;
@@ -87,7 +78,7 @@ fn record_path(alloc: Global, path: &str) -> Result<String, AllocError> {
     Ok(record)
 }
 
-/// Returns whether the file at a path is a record that begins with these bytes.
+/// Returns whether the file at `path` is a record that begins with `front`.
 fn holds_record(rt: &HostRuntime, path: &str, front: &str) -> bool {
     if !fs::metadata(rt, path).is_ok_and(|found| found.is_file() && found.len() < RECORD_MAX) {
         return false;
@@ -98,7 +89,7 @@ fn holds_record(rt: &HostRuntime, path: &str, front: &str) -> bool {
     }
 }
 
-/// Returns whether a record begins with `front`, and the digits of a SHA-256 and a line feed follow.
+/// Returns whether a record consists of `front`, 64 more bytes and a line feed.
 fn is_record(record: &[u8], front: &[u8]) -> bool {
     match record.strip_prefix(front) {
         Some(digits) => digits.len() == DIGITS && digits.ends_with(b"\n"),
@@ -106,7 +97,8 @@ fn is_record(record: &[u8], front: &[u8]) -> bool {
     }
 }
 
-/// Returns the bytes of an image's record up to its SHA-256: the version of records, and what tells this file from every other.
+/// Returns the bytes of an image's record up to its SHA-256: the version of the record format, and
+/// the metadata that distinguish this file from every other one.
 fn record_front(alloc: Global, image: &Metadata) -> Result<String, AllocError> {
     let device = image.dev();
     let major = ((device >> 8) & 0xfff) | ((device >> 32) & 0xffff_f000);

@@ -1,4 +1,4 @@
-//! A file that was read whole.
+//! Files that are read whole.
 
 ghost use Rattle.std.specs.Prelude.{◌≡◌, All, IfOk, IfErr, IfSome, map, string_bytes};
 ghost use Rattle.std.specs.Io.KnownBytes.{IsAtEnd};
@@ -15,7 +15,7 @@ use std::io::Read;
 use std::rt::Files;
 use std::string::String;
 
-/// A file that was read whole.
+/// The path and the contents of a file.
 #[derive(Drop)]
 pub struct WholeFile {
     pub path: String,
@@ -23,7 +23,7 @@ pub struct WholeFile {
 }
 
 impl WholeFile {
-    /// Reads the file at a path, within `READS_MAX` reads.
+    /// Reads the file at `path`, in at most `READS_MAX` reads.
     pub fn read<R: Files + AllocGlobal>(rt: &R, path: &str) -> Result<WholeFile, Fault>
         ensures path { IfOk result (λ whole. string_bytes whole.path ≡ path.now) }
         ensures bytes { IfOk result (λ whole. AreOfAFile R.File.remaining whole.bytes.items) }
@@ -35,7 +35,7 @@ impl WholeFile {
         }
     }
 
-    /// Reads what is left of a file that was opened at a path, within `READS_MAX` reads.
+    /// Reads the remainder of a file that was opened at `path`, in at most `READS_MAX` reads.
     pub fn read_from<F: Read>(alloc: Global, path: &str, file: &mut F) -> Result<WholeFile, Fault>
         ensures path { IfOk result (λ whole. string_bytes whole.path ≡ path.now) }
         ensures bytes { IfOk result (λ whole.
@@ -53,7 +53,7 @@ impl WholeFile {
     }
 }
 
-/// Reads the files at paths, one after the other, up to the first that can't be read.
+/// Reads the files at `paths` in order, and stops at the first error.
 pub fn read_files<R: Files + AllocGlobal>(rt: &R, paths: &[String]) -> Result<Vec<WholeFile>, Fault>
     ensures paths { IfOk result (λ files. map (λ file. string_bytes file.path) files.items
         ≡ map (λ path. string_bytes path) paths.now) }
@@ -69,7 +69,7 @@ pub fn read_files<R: Files + AllocGlobal>(rt: &R, paths: &[String]) -> Result<Ve
     Ok(files)
 }
 
-/// The bytes of each file.
+/// Returns the contents of each file.
 pub fn texts(alloc: Global, files: &[WholeFile]) -> Result<Vec<&[u8]>, AllocError>
     ensures { IfOk result (λ texts.
         map (λ text. text.now) texts.items ≡ map (λ file. file.bytes.items) files.now) }

@@ -1,4 +1,4 @@
-//! A file that is written whole or not at all.
+//! Atomic writing of whole files.
 
 ghost use Rattle.std.specs.Prelude.{IfErr, OnOk};
 ghost use Rattle.std.specs.Io.KnownBytes.{Appends};
@@ -7,8 +7,8 @@ ghost use Rattle.programs.specs.Writing.{WasAppended};
 ghost use Rattle.programs.specs.declared.fault.Fault.TheVariants.{File as OfFile};
 
 use crate::fault::Fault;
-use crate::narrator::Narrator;
 use crate::output::write_whole;
+use crate::reporter::Reporter;
 use std::fs::{self, File, OpenFile, OpenOptions, Permissions};
 use std::io::{self, ErrorKind, Write};
 use std::os::unix::fs::{OpenOptionsExt, PermissionsExt};
@@ -16,39 +16,41 @@ use std::process;
 use std::rt::Files;
 use std::string::String;
 
-/// The mode of a file that replaces none, before the umask takes bits away.
+/// Mode of a file that replaces none, before the umask is applied.
 const NEW_MODE: u32 = 0o666;
 
-/// The bits of a mode that say who may read, write and run a file.
+/// The read, write and execute bits of a mode.
 const ACCESS_BITS: u32 = 0o777;
 
-/// Writes the file at a path, in place of the one that stands there or that a link there leads to.
+/// Writes `bytes` to the file at `path`. An existing file is replaced, and a symbolic link is
+/// followed.
 ///
-/// The bytes go to a new file in the same directory, which then takes the name: a failed call
-/// leaves the old file as it was, and no new one where that can be removed. The new file has the
-/// old one's mode before it has a byte, and never a wider one. What is no file, as a device, is
-/// written where it stands. No write that fails is made again. The system's reason of a failure is
-/// printed where `narrator` prints steps, and on a terminal.
+/// The bytes are written to a new file in the same directory, which is then renamed. A failed call
+/// leaves the old file unchanged, and removes the new one if it can. The new file gets the mode of
+/// the old one before its first byte, and never has a wider one. Devices and other special files
+/// are written in place. A failed write is not retried. If the reporter is interactive, the
+/// system's reason for a failure is printed.
 pub fn write_file(
     rt: &HostRuntime,
-    narrator: &Narrator<'_>,
+    reporter: &Reporter<'_>,
     path: &str,
     bytes: &[u8],
 ) -> Result<(), Fault>
     ensures fault { IfErr result (Names OfFile path.now) }
 {
     let process = process::id(rt.process());
-    match write_as(rt, process, path, bytes) {
+    match write_file_as(rt, process, path, bytes) {
         Ok(()) => Ok(()),
         Err(error) => {
-            narrator.print_reason(path, &error);
+            reporter.print_reason(path, &error);
             Err(Fault::of_file(rt.alloc(), path, &error))
         }
     }
 }
 
-/// Writes a file as `write_file` does, by the process of this number. Returns the error of the call that failed.
-pub fn write_as<R: Files + AllocGlobal>(
+/// Writes a file as `write_file` does, but without a reporter. `process` is part of the name of the
+/// new file. Returns the error of the call that failed.
+pub fn write_file_as<R: Files + AllocGlobal>(
     rt: &R,
     process: u32,
     path: &str,
@@ -57,13 +59,13 @@ pub fn write_as<R: Files + AllocGlobal>(
     ensures written { OnOk result (WasAppended R.File.contents bytes.now) }
 {
     match fs::metadata(rt, path) {
-        Ok(old) if old.is_file() => replace_behind(rt, process, path, old.permissions(), bytes),
+        Ok(old) if old.is_file() => replace_target(rt, process, path, old.permissions(), bytes),
         Ok(_) => write_device(rt, path, bytes),
         Err(_) => replace(rt, process, path, None, bytes),
     }
 }
 
-/// Writes what is no file where it stands.
+/// Writes `bytes` in place to a device or another special file.
 fn write_device<R: Files>(rt: &R, path: &str, bytes: &[u8]) -> io::Result<()>
     ensures written { OnOk result (WasAppended R.File.contents bytes.now) }
 {
@@ -71,8 +73,8 @@ fn write_device<R: Files>(rt: &R, path: &str, bytes: &[u8]) -> io::Result<()>
     write_whole(&mut device, bytes)
 }
 
-/// Replaces the file at a path, or the one that a link there leads to.
-fn replace_behind<R: Files + AllocGlobal>(
+/// Replaces the file at `path`, or the file that a symbolic link at `path` leads to.
+fn replace_target<R: Files + AllocGlobal>(
     rt: &R,
     process: u32,
     path: &str,
@@ -85,7 +87,8 @@ fn replace_behind<R: Files + AllocGlobal>(
     replace(rt, process, file.as_str(), Some(mode), bytes)
 }
 
-/// Writes a new file beside a path, which then takes its name; where that fails it is removed.
+/// Writes a new file in the directory of `path` and renames it to `path`. Removes the new file if
+/// that fails.
 fn replace<R: Files + AllocGlobal>(
     rt: &R,
     process: u32,
@@ -95,7 +98,7 @@ fn replace<R: Files + AllocGlobal>(
 ) -> io::Result<()>
     ensures written { OnOk result (WasAppended R.File.contents bytes.now) }
 {
-    let (beside, mut file) = create_beside(rt, process, path, access_of(&mode))?;
+    let (beside, mut file) = create_temporary(rt, process, path, access_of(&mode))?;
     let moved = match fill(&mut file, mode, bytes) {
         Ok(()) => fs::rename(rt, beside.as_str(), path),
         Err(error) => Err(error),
@@ -106,7 +109,8 @@ fn replace<R: Files + AllocGlobal>(
     moved
 }
 
-/// The mode with which a new file is created: that of the old one, but for what is no access.
+/// Returns the mode with which the new file is created: the access bits of the old file, or
+/// `NEW_MODE`.
 fn access_of(old: &Option<Permissions>) -> u32 {
     match old {
         Some(mode) => mode.mode() & ACCESS_BITS,
@@ -114,10 +118,11 @@ fn access_of(old: &Option<Permissions>) -> u32 {
     }
 }
 
-/// A new file in the directory of a path, and its name: the first of a process that is not taken.
+/// Creates a new file in the directory of `path`, under the first free name that contains
+/// `process`. Returns its path and the file.
 ///
-/// The name is a short one whatever the path's is, so that this one may have all of 255 bytes.
-fn create_beside<R: Files + AllocGlobal>(
+/// The name is short, so that the file name in `path` may have all of 255 bytes.
+fn create_temporary<R: Files + AllocGlobal>(
     rt: &R,
     process: u32,
     path: &str,
@@ -136,7 +141,7 @@ fn create_beside<R: Files + AllocGlobal>(
     Err(io::Error::from(ErrorKind::AlreadyExists))
 }
 
-/// The directory of the file at a path, to which a `/` and a name are added: the current one where the path has no `/`.
+/// Returns the directory of the file at `path` without a final `/`, or `.` if `path` has no `/`.
 fn directory_of(path: &str) -> &str {
     match path.rsplit_once('/') {
         Some((directory, _name)) => directory,
@@ -144,7 +149,8 @@ fn directory_of(path: &str) -> &str {
     }
 }
 
-/// Gives a new file its mode, from which the umask may have taken bits, then its bytes, and waits until they are stored.
+/// Sets the mode of a new file again, because the umask may have removed bits, writes its bytes and
+/// syncs it.
 fn fill<F: Write + OpenFile>(
     file: &mut F,
     mode: Option<Permissions>,

@@ -1,4 +1,4 @@
--- The words of a list at each place are words of a text, whatever the list.
+-- The words of any list, at each position, are words of a text.
 use Rattle.std.proofs.Common.{◌≡◌, ℕ, zero, suc, ◌+◌, ◌<◌, ◌≤◌, ◌^◌, Bool, true, false, cond, List, [], ◌∷◌, ◌++◌, slice_get, drop, length, flat_map, Contains, Option, Some, refl, sym, ap, ◌∙◌, subst, arith}
 use Rattle.std.specs.List.{AllByRecursion}
 use Rattle.std.specs.Option.{option_map_or}
@@ -10,13 +10,13 @@ use Rattle.std.proofs.lemmas.Option.{same_Some, slice_get_within}
 use Rattle.mj_model.specs.declared.word.Word.{Word}
 use Rattle.mj_model.specs.declared.word.Origin.TheVariants.{Known}
 use Rattle.mj_model.specs.Bounds.{IsWithin}
-use Rattle.paths.specs.Searchable.{IsSearchable}
-use Rattle.paths.specs.declared.surface.Surface.{Surface}
-use Rattle.paths.specs.Surfaces.{AreSurfacesOf, IsWhole, StandsWith}
+use Rattle.mj_model.specs.Searchable.{IsSearchable}
+use Rattle.mj_model.specs.declared.paths.surface.Surface.{Surface}
+use Rattle.mj_model.specs.Surfaces.{AreSurfacesOf, IsWhole, HasSameSpan}
 use Rattle.search_tests.specs.Sample.{lies_at, numbered, sample_connection, sample_surfaces, sample_words, surface_of, words_numbered}
-use Rattle.path_search.proofs.Pushed.{get_from_Contains}
+use Rattle.viterbi.proofs.Pushed.{get_from_Contains}
 
--- a word that lies at the place, with a number of at least k
+-- A word that lies at `p`, with a number of at least `k`.
 record Lies (k len p : ℕ) (w : Word) : Type 0 where
   here : lies_at len p w ≡ true
   number : ℕ
@@ -36,7 +36,7 @@ lies : (ws : List Word) (k len p i : ℕ) (w : Word) → slice_get (sample_words
 lies [] k len p i w h = absurd (cc)
 lies (v ∷ vs) k len p i w h = lies_case v w (sample_words vs (k + 1) len p) k len p i (lies_at len p v) refl (λ j g. later k len p w (lies vs (k + 1) len p j w g)) h
 
--- a word of number k is none of those with greater numbers
+-- A word with the number `k` differs from all words with greater numbers.
 not_later : (v w : Word) (k len p : ℕ) → Some (numbered k v) ≡ Some w → Lies (k + 1) len p w → ⊥
 not_later v w k len p same l =
     let e : Known k 0 ≡ Known l.number 0 = ap (λ (u : Word). u.origin) (same_Some (numbered k v) w same) ∙ l.known in
@@ -119,7 +119,7 @@ one_sample all k w at = ap (λ (o : Option Word). option_map_or (λ (v : Word). 
 sample_is_whole : (all : List Word) (k : ℕ) (w : Word) → slice_get all k ≡ Some w → IsWhole (words_numbered all) (surface_of k w)
 sample_is_whole all k w at =
     let e = one_sample all k w at in
-    record { count_is = ap length e; some = omega arith; stand = subst (AllByRecursion (StandsWith (surface_of k w))) (sym e) (record { place = refl; start = refl; end = refl }, tt) }
+    record { count_is = ap length e; some = omega arith; stand = subst (AllByRecursion (HasSameSpan (surface_of k w))) (sym e) (record { place = refl; start = refl; end = refl }, tt) }
 
 are_case : (all : List Word) (k : ℕ) (w : Word) (words : List Word) (surfaces : List Surface) (b : Bool) → slice_get all k ≡ Some w → AreSurfacesOf (words_numbered all) words surfaces
     → AreSurfacesOf (words_numbered all) (cond b (numbered k w ∷ []) [] ++ words) (cond b (surface_of k w ∷ []) [] ++ surfaces)

@@ -1,5 +1,6 @@
-//! Tests of the words of a place, of best paths and of lattices. Nothing else stands here: a crate with tests is proved once with them and once
-//! without.
+//! Tests of the words at a position, of best paths and of lattices.
+//!
+//! The crate has only tests, because a crate with tests is proved twice: with them and without.
 #![tactic(auto)]
 
 #[cfg(test)]

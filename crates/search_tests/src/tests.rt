@@ -1,4 +1,4 @@
-//! What the public calls of each crate answer.
+//! Tests of the public calls, grouped by crate.
 mod dicts;
 mod of_lattice;
 mod of_lattice_nodes;
@@ -7,7 +7,7 @@ mod of_rivals;
 mod of_word_lookup;
 mod sample;
 
-/// Whether what was found is what is wanted, one by one.
+/// Returns whether `found` and `wanted` have the same length and match item by item.
 fn all_match<T, W, F: Fn(&T, &W) -> bool + Drop>(found: &[T], wanted: &[W], matches: F) -> bool
     requires { F.IsAlwaysCallable matches }
 {

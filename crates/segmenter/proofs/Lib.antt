@@ -1,6 +1,7 @@
 pub mod UserDicts
 pub mod OverlayLemmas
-pub mod EarlyEnds
-pub mod AnswerLemmas
+pub mod RunFaults
+pub mod ResultLemmas
 pub mod OneOutput
 pub mod JoinedTexts
+pub mod SegmentedTexts

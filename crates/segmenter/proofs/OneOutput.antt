@@ -1,4 +1,5 @@
--- Over dictionaries that cover every text a line has one text or one fault, and so a text has one output.
+-- With dictionaries that cover every text a line has one output or one error, so a text has one
+-- output.
 use Rattle.std.proofs.Common.{◌≡◌, ℕ, ◌+◌, List, [], ◌∷◌, ◌++◌, length, Option, Some, None, inl, inr, refl, sym, ap, ◌∙◌, subst, arith}
 use Rattle.std.specs.Prelude.{Result, Ok, Err}
 use Rattle.std.specs.Str.{is_utf8}
@@ -9,16 +10,16 @@ use Rattle.mj_model.specs.declared.word.Word.{Word}
 use Rattle.mj_model.specs.Output.{BadLine, Output, text_lines}
 use Rattle.mj_model.specs.Tables.{Overlay}
 use Rattle.out_format.specs.Formats.{Format}
-use Rattle.out_format.specs.PrintedPaths.{ShowsPath}
+use Rattle.out_format.specs.PrintedPaths.{PrintsPath}
 use Rattle.out_format.proofs.OneText.{one_text}
-use Rattle.paths.specs.PathLaws.{CoversTexts}
+use Rattle.mj_model.specs.PathLaws.{CoversTexts}
 use Rattle.line_stream.specs.declared.line_fault.LineFault.{LineFault}
 use Rattle.line_stream.specs.declared.line_fault.LineFault.TheVariants.{TooLong, NotUtf8}
 use Rattle.segmenter.specs.OneOutput.{HasOneOutput}
 use Rattle.line_stream.specs.GoodLines.{IsGood}
-use Rattle.words_printer.specs.PrintedLines.{Prints, Tells}
+use Rattle.out_format.specs.PrintedLines.{IsBestPathText, LineResult}
 
--- ---- what is told of a line
+-- ---- the result of a line
 
 abbrev fault_or : LineFault → Result (List ℕ) LineFault → LineFault
 fault_or other (Ok text) = other
@@ -38,15 +39,15 @@ not_both : (x : List ℕ) (fault : LineFault) → ◌≡◌ {A = Result (List �
 not_both x fault e = cc
 
 module _ (o : Overlay) (format : Format) (covers : CoversTexts o) where
-  -- a good line has one best path, which shows one text
-  one_print : (line x y : List ℕ) → IsGood line → Prints o format line x → Prints o format line y → y ≡ x
+  -- a valid line has one best path, which prints one text
+  one_print : (line x y : List ℕ) → IsGood line → IsBestPathText o format line x → IsBestPathText o format line y → y ≡ x
   one_print line x y good h k =
       let covered = covers line good.1 in
       let same : k.0 ≡ h.0 = covered.no_other k.0 k.1 ∙ sym (covered.no_other h.0 h.1) in
       let shown = one_text o format line h.0 in
-      shown.2 y (subst (λ (path : List Word). ShowsPath o format line path y) same k.2) ∙ sym (shown.2 x h.2)
+      shown.2 y (subst (λ (path : List Word). PrintsPath o format line path y) same k.2) ∙ sym (shown.2 x h.2)
 
-  one_told : (line : List ℕ) (a b : Result (List ℕ) LineFault) → Tells o format line a → Tells o format line b → b ≡ a
+  one_told : (line : List ℕ) (a b : Result (List ℕ) LineFault) → LineResult o format line a → LineResult o format line b → b ≡ a
   one_told line (Ok x) (Ok y) h k = ap Ok (one_print line x y h.0 h.1 k.1)
   one_told line (Ok x) (Err TooLong) h k = absurd (omega (arith, h.0.0, k))
   one_told line (Ok x) (Err NotUtf8) h k = absurd (k.1 h.0.1)
@@ -57,8 +58,8 @@ module _ (o : Overlay) (format : Format) (covers : CoversTexts o) where
   one_told line (Err NotUtf8) (Err TooLong) h k = absurd (omega (arith, h.0, k))
   one_told line (Err NotUtf8) (Err NotUtf8) h k = refl
 
-  -- of each line something is told
-  some_told : (line : List ℕ) → (told : Result (List ℕ) LineFault) × Tells o format line told
+  -- each line has a result
+  some_told : (line : List ℕ) → (reported : Result (List ℕ) LineFault) × LineResult o format line reported
   some_told line = elim (cases_lt SENTENCE_MAX (length line)) [
     | inl long ↦ (Err TooLong, long)
     | inr short ↦ elim (cases_Bool (is_utf8 line)) [
@@ -74,18 +75,18 @@ module _ (o : Overlay) (format : Format) (covers : CoversTexts o) where
   -- ---- what lines print
 
   abbrev HasOutput : ℕ → List (List ℕ) → Type 0
-  HasOutput n lines = (out : List ℕ) × (bad : Option (BadLine LineFault)) × Output (Tells o format) n lines out bad
+  HasOutput n lines = (out : List ℕ) × (bad : Option (BadLine LineFault)) × Output (LineResult o format) n lines out bad
 
-  with_first : (n : ℕ) (line : List ℕ) (lines : List (List ℕ)) (told : Result (List ℕ) LineFault) → Tells o format line told → HasOutput (n + 1) lines → HasOutput n (line ∷ lines)
-  with_first n line lines (Ok text) tells more = (text ++ more.0, more.1, inr (text, more.0, tells, more.2, refl))
-  with_first n line lines (Err fault) tells more = ([], Some (record { number = n; fault = fault }), inl (fault, tells, refl, refl))
+  with_first : (n : ℕ) (line : List ℕ) (lines : List (List ℕ)) (reported : Result (List ℕ) LineFault) → LineResult o format line reported → HasOutput (n + 1) lines → HasOutput n (line ∷ lines)
+  with_first n line lines (Ok text) reports more = (text ++ more.0, more.1, inr (text, more.0, reports, more.2, refl))
+  with_first n line lines (Err fault) reports more = ([], Some (record { number = n; fault = fault }), inl (fault, reports, refl, refl))
 
   some_output : (n : ℕ) (lines : List (List ℕ)) → HasOutput n lines
   some_output n [] = ([], None, (refl, refl))
-  some_output n (line ∷ lines) = let told = some_told line in with_first n line lines told.0 told.1 (some_output (n + 1) lines)
+  some_output n (line ∷ lines) = let reported = some_told line in with_first n line lines reported.0 reported.1 (some_output (n + 1) lines)
 
-  one_output_of : (n : ℕ) (lines : List (List ℕ)) (out other : List ℕ) (bad also_bad : Option (BadLine LineFault)) → Output (Tells o format) n lines out bad
-      → Output (Tells o format) n lines other also_bad → (other ≡ out) × (also_bad ≡ bad)
+  one_output_of : (n : ℕ) (lines : List (List ℕ)) (out other : List ℕ) (bad also_bad : Option (BadLine LineFault)) → Output (LineResult o format) n lines out bad
+      → Output (LineResult o format) n lines other also_bad → (other ≡ out) × (also_bad ≡ bad)
   one_output_of n [] out other bad also_bad h k = (k.0 ∙ sym h.0, k.1 ∙ sym h.1)
   one_output_of n (line ∷ lines) out other bad also_bad (inl h) (inl k) =
       let same = same_fault k.0 h.0 (one_told line (Err h.0) (Err k.0) h.1 k.1) in

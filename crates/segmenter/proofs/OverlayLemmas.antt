@@ -8,7 +8,7 @@ use Rattle.mj_model.specs.declared.overlay_fault.OverlayFault.TheVariants.{NotSy
 use Rattle.mj_model.specs.declared.sources.Sources.{Sources}
 use Rattle.dict_compile.specs.Compilation.{HaveUserTables}
 use Rattle.mj_model.specs.declared.matrix_sizes.MatrixSizes.{MatrixSizes}
-use Rattle.image_bytes.specs.ImageMeaning.{image_tables}
+use Rattle.image_format.specs.ImageMeaning.{image_tables}
 use Rattle.mj_model.specs.Overlays.{are_same_sizes, first_user_fault, is_user, overlay_fault}
 use Rattle.dict_compile.specs.SourceOverlays.{HaveOverlay}
 use Rattle.mj_model.specs.Tables.{Kind, Tables, Overlay, System, User}
@@ -30,7 +30,7 @@ no_user_fault system i (user ∷ users) (dict ∷ dicts) h =
     no_fault_by (image_tables dict).kind (are_same_sizes (image_tables dict).sizes system.sizes) (Some (NotUser i)) (Some (OtherSizes i)) (first_user_fault system.sizes (suc i) (map image_tables dicts))
     h.0.2.have.kind (same_sizes (image_tables dict).sizes system.sizes h.0.2.have.sizes_kept) (no_user_fault system (suc i) users dicts h.1)
 
--- the overlay has no fault
+-- the overlay has no error
 pub no_overlay_fault : (system : Tables) (users : List (List (List ℕ))) (dicts : List (List ℕ)) → system.kind ≡ System → AllZip (IsUserDictOf system) users dicts
     → overlay_fault system (map image_tables dicts) ≡ None
 no_overlay_fault system users dicts kind h =
@@ -43,7 +43,7 @@ each_have system [] (dict ∷ dicts) h = absurd h
 each_have system (user ∷ users) [] h = absurd h
 each_have system (user ∷ users) (dict ∷ dicts) h = (h.0.2.have, each_have system users dicts h.1)
 
--- it says what the sources and the users' lexicons say
+-- the overlay is what the sources and the user lexicons define
 pub have_overlay : (s : Sources) (users : List (List (List ℕ))) (grouping : ℕ) (dict : List ℕ) (dicts : List (List ℕ)) (o : Overlay) → IsDictOf s dict → AllZip (IsUserDictOf (image_tables dict)) users dicts
     → o ≡ record { system = image_tables dict; users = map image_tables dicts; grouping = grouping } → HaveOverlay s users grouping o
 have_overlay s users grouping dict dicts o d h is =

@@ -1,4 +1,4 @@
--- The user dictionaries of users' lexicons, and the first fault of these.
+-- The user dictionaries of user lexicons, and their first error.
 use Rattle.std.proofs.Common.{◌≡◌, ℕ, zero, suc, ◌+◌, ◌<◌, ◌≤◌, List, [], ◌∷◌, ◌++◌, length, take, take_all, get_or, Bor, refl, sym, ap, ◌∙◌, subst, ◌⊎◌, inl, inr, arith}
 use Rattle.std.specs.Prelude.{Some, slice_get}
 use Rattle.std.specs.List.{AllZip}
@@ -10,19 +10,19 @@ use Rattle.mj_model.specs.declared.run_fault.RunFault.TheVariants as run
 use Rattle.mj_model.specs.declared.source_fault.SourceFault.{SourceFault}
 use Rattle.mj_model.specs.declared.source_fault.SourceKind.TheVariants.{ArrayFull, Memory}
 use Rattle.dict_compile.specs.Compilation.{IsUserCause, IsUserFault}
-use Rattle.mj_model.specs.FirstFault.{IsRefusal}
-use Rattle.image_bytes.specs.ImageMeaning.{image_tables}
+use Rattle.mj_model.specs.FirstFault.{IsMemoryOr}
+use Rattle.image_format.specs.ImageMeaning.{image_tables}
 use Rattle.dict_compile.specs.SourceOverlays.{IsOfUser, UserCompileTo}
 use Rattle.mj_model.specs.Tables.{Tables}
 use Rattle.dict_compile.proofs.UserLemmas.{not_both_for, user_told_for}
-use Rattle.segmenter.specs.EarlyFaults.{EndsEarly}
-use Rattle.segmenter.specs.SourceDicts.{IsToldFor, IsUserDictOf, IsUsersRefusal, LacksCells, lexicons_of, users_of}
+use Rattle.segmenter.specs.SourceFaults.{IsRunFaultFor}
+use Rattle.segmenter.specs.SourceDicts.{IsReportedFor, IsUserDictOf, IsUsersError, LacksCells, lexicons_of, users_of}
 
 module _ (system : Tables) where
   compiles : (lexicons : List (List ℕ)) (dict : List ℕ) → IsUserDictOf system lexicons dict → (t : Tables) × UserCompileTo system lexicons t
   compiles lexicons dict d = (image_tables dict, record { have = d.2.have; few_features = d.2.compiled.few_features })
 
-  -- ---- the users so far
+  -- ---- the user dictionaries so far
 
   none_there : (j : ℕ) (lexicons : List (List ℕ)) → slice_get {X = List (List ℕ)} [] j ≡ Some lexicons → ⊥
   none_there zero lexicons e = cc
@@ -36,7 +36,7 @@ module _ (system : Tables) where
   all_compile (user ∷ users) (dict ∷ dicts) h zero lexicons e = subst (λ ls. (t : Tables) × UserCompileTo system ls t) (same_Some user lexicons e) (compiles user dict h.0)
   all_compile (user ∷ users) (dict ∷ dicts) h (suc j) lexicons e = all_compile users dicts h.1 j lexicons e
 
-  -- those of the users before one do
+  -- the lexicons of the users before one compile
   pub before_compile : (users : List (List (List ℕ))) (dicts : List (List ℕ)) (i : ℕ) → AllZip (IsUserDictOf system) (take i users) dicts
       → (j : ℕ) (lexicons : List (List ℕ)) → j < i → slice_get users j ≡ Some lexicons → (t : Tables) × UserCompileTo system lexicons t
   before_compile [] dicts i h j lexicons less e = absurd (none_there j lexicons e)
@@ -45,60 +45,60 @@ module _ (system : Tables) where
   before_compile (user ∷ users) (dict ∷ dicts) (suc i) h zero lexicons less e = subst (λ ls. (t : Tables) × UserCompileTo system ls t) (same_Some user lexicons e) (compiles user dict h.0)
   before_compile (user ∷ users) (dict ∷ dicts) (suc i) h (suc j) lexicons less e = before_compile users dicts i h.1 j lexicons (omega (arith, less)) e
 
-  -- ---- a refused user
+  -- ---- a rejected user dictionary
 
   module _ (users : List (List (List ℕ))) (i : ℕ) (lexicons : List (List ℕ)) (there : slice_get users i ≡ Some lexicons)
       (before : (j : ℕ) (others : List (List ℕ)) → j < i → slice_get users j ≡ Some others → (t : Tables) × UserCompileTo system others t)
-      (fault : SourceFault) (told : RunFault) (ends : EndsEarly (run.UserSource i) fault told) (refused : IsRefusal fault (IsUserCause system lexicons fault)) where
-    refused_by : ((told ≡ run.Memory 0) × (fault.kind ≡ Memory)) ⊎ ((told ≡ run.UserSource i fault) × (fault.kind ≡ Memory → ⊥))
-        → IsRefusal fault (IsUserCause system lexicons fault) → IsUsersRefusal system users told
-    refused_by (inl (memory, want)) r = subst (IsUsersRefusal system users) (sym memory) refl
+      (fault : SourceFault) (reported : RunFault) (ends : IsRunFaultFor (run.UserSource i) fault reported) (rejected : IsMemoryOr fault (IsUserCause system lexicons fault)) where
+    refused_by : ((reported ≡ run.Memory 0) × (fault.kind ≡ Memory)) ⊎ ((reported ≡ run.UserSource i fault) × (fault.kind ≡ Memory → ⊥))
+        → IsMemoryOr fault (IsUserCause system lexicons fault) → IsUsersError system users reported
+    refused_by (inl (memory, want)) r = subst (IsUsersError system users) (sym memory) refl
     refused_by (inr is) (inl memory) = absurd (is.1 memory)
     refused_by (inr is) (inr cause) =
-        subst (IsUsersRefusal system users) (sym is.0) (record { lexicons = lexicons; there = there; fault_is = cause; before_compile = before })
+        subst (IsUsersError system users) (sym is.0) (record { lexicons = lexicons; there = there; fault_is = cause; before_compile = before })
 
-    -- the refusal has its cause
-    pub users_refusal : IsUsersRefusal system users told
-    users_refusal = refused_by ends.either refused
+    -- the rejection has its cause
+    pub users_refusal : IsUsersError system users reported
+    users_refusal = refused_by ends.either rejected
 
-    told_here : (first : SourceFault) → IsUserFault system lexicons first → ((told ≡ run.Memory 0) × (fault.kind ≡ Memory)) ⊎ ((told ≡ run.UserSource i fault) × (fault.kind ≡ Memory → ⊥))
-        → (fault ≡ first) ⊎ ((fault.kind ≡ Memory) ⊎ (fault.kind ≡ ArrayFull)) → IsToldFor (run.UserSource i first) told
+    told_here : (first : SourceFault) → IsUserFault system lexicons first → ((reported ≡ run.Memory 0) × (fault.kind ≡ Memory)) ⊎ ((reported ≡ run.UserSource i fault) × (fault.kind ≡ Memory → ⊥))
+        → (fault ≡ first) ⊎ ((fault.kind ≡ Memory) ⊎ (fault.kind ≡ ArrayFull)) → IsReportedFor (run.UserSource i first) reported
     told_here first h (inl (memory, want)) t = inr (inl memory)
     told_here first h (inr is) (inl same) = inl (is.0 ∙ ap (run.UserSource i) same)
     told_here first h (inr is) (inr (inl memory)) = absurd (is.1 memory)
     told_here first h (inr is) (inr (inr full)) = inr (inr (subst LacksCells (sym is.0) full))
 
-    told_later : (first : RunFault) (t : Tables) → UserCompileTo system lexicons t → ((told ≡ run.Memory 0) × (fault.kind ≡ Memory)) ⊎ ((told ≡ run.UserSource i fault) × (fault.kind ≡ Memory → ⊥))
-        → IsRefusal fault (IsUserCause system lexicons fault) → IsToldFor first told
+    told_later : (first : RunFault) (t : Tables) → UserCompileTo system lexicons t → ((reported ≡ run.Memory 0) × (fault.kind ≡ Memory)) ⊎ ((reported ≡ run.UserSource i fault) × (fault.kind ≡ Memory → ⊥))
+        → IsMemoryOr fault (IsUserCause system lexicons fault) → IsReportedFor first reported
     told_later first t c (inl (memory, want)) r = inr (inl memory)
     told_later first t c (inr is) (inl memory) = absurd (is.1 memory)
     told_later first t c (inr is) (inr (inl cause)) = absurd (not_both_for system lexicons t fault c.have c.few_features cause)
     told_later first t c (inr is) (inr (inr full)) = inr (inr (subst LacksCells (sym is.0) (ap (λ (f : SourceFault). f.kind) full.3.1)))
 
-    first_by : (k : ℕ) (first : SourceFault) → IsOfUser (IsUserFault system) system users k first → (k ≡ i) ⊎ ((k < i) ⊎ (i < k)) → IsToldFor (run.UserSource k first) told
+    first_by : (k : ℕ) (first : SourceFault) → IsOfUser (IsUserFault system) system users k first → (k ≡ i) ⊎ ((k < i) ⊎ (i < k)) → IsReportedFor (run.UserSource k first) reported
     first_by k first h (inl same) =
         let l : h.lexicons ≡ lexicons = same_Some h.lexicons lexicons (sym h.there ∙ ap (slice_get users) same ∙ there) in
         let f : IsUserFault system lexicons first = subst (λ ls. IsUserFault system ls first) l h.fault_is in
-        subst (λ n. IsToldFor (run.UserSource n first) told) (sym same) (told_here first f ends.either (user_told_for system lexicons first fault f refused))
+        subst (λ n. IsReportedFor (run.UserSource n first) reported) (sym same) (told_here first f ends.either (user_told_for system lexicons first fault f rejected))
     first_by k first h (inr (inl less)) =
         let c = before k h.lexicons less h.there in
         absurd (not_both_for system h.lexicons c.0 first c.1.have c.1.few_features h.fault_is)
     first_by k first h (inr (inr more)) =
         let c = h.before_compile i lexicons more there in
-        told_later (run.UserSource k first) c.0 c.1 ends.either refused
+        told_later (run.UserSource k first) c.0 c.1 ends.either rejected
 
-    -- the first fault is told
-    pub users_first : (k : ℕ) (first : SourceFault) → IsOfUser (IsUserFault system) system users k first → IsToldFor (run.UserSource k first) told
+    -- the first error is reported
+    pub users_first : (k : ℕ) (first : SourceFault) → IsOfUser (IsUserFault system) system users k first → IsReportedFor (run.UserSource k first) reported
     users_first k first h = first_by k first h (cases_order k i)
 
-  -- users that compile have no fault
+  -- user lexicons that compile have no error
   pub none_at_fault : (users : List (List (List ℕ))) (dicts : List (List ℕ)) → AllZip (IsUserDictOf system) users dicts
       → (k : ℕ) (first : SourceFault) → IsOfUser (IsUserFault system) system users k first → ⊥
   none_at_fault users dicts h k first f =
       let c = all_compile users dicts h k f.lexicons f.there in
       not_both_for system f.lexicons c.0 first c.1.have c.1.few_features f.fault_is
 
-  -- ---- one more user
+  -- ---- one more user dictionary
 
   zip_push : (xs : List (List (List ℕ))) (ys : List (List ℕ)) (x : List (List ℕ)) (y : List ℕ) → AllZip (IsUserDictOf system) xs ys → IsUserDictOf system x y → AllZip (IsUserDictOf system) (xs ++ x ∷ []) (ys ++ y ∷ [])
   zip_push [] [] x y h r = (r, tt)
@@ -114,7 +114,7 @@ module _ (system : Tables) where
       (sym (ap users_of (take_more users i d low) ∙ map-append (λ (lexicons : Bor (List (Bor (List ℕ)))). lexicons_of lexicons.now) (take i users) (get_or users i d ∷ [])))
       (zip_push (users_of (take i users)) dicts (lexicons_of (get_or users i d).now) dict h is)
 
-  -- ---- the users as they are given
+  -- ---- the user lexicons as the caller passes them
 
   abbrev Given : Type 0
   Given = Bor (List (Bor (List ℕ)))
@@ -125,18 +125,18 @@ module _ (system : Tables) where
   there_in (user ∷ users) (suc i) d low = there_in users i d (omega (arith, low))
 
   module _ (users : List Given) (i : ℕ) (d : Given) (dicts : List (List ℕ)) (low : i < length users) (so_far : AllZip (IsUserDictOf system) (users_of (take i users)) dicts)
-      (fault : SourceFault) (told : RunFault) (ends : EndsEarly (run.UserSource i) fault told) (refused : IsRefusal fault (IsUserCause system (lexicons_of (get_or users i d).now) fault)) where
+      (fault : SourceFault) (reported : RunFault) (ends : IsRunFaultFor (run.UserSource i) fault reported) (rejected : IsMemoryOr fault (IsUserCause system (lexicons_of (get_or users i d).now) fault)) where
     so_far_compile : (j : ℕ) (others : List (List ℕ)) → j < i → slice_get (users_of users) j ≡ Some others → (t : Tables) × UserCompileTo system others t
     so_far_compile =
         before_compile (users_of users) dicts i
         (subst (λ us. AllZip (IsUserDictOf system) us dicts) (sym (take-map (λ (lexicons : Given). lexicons_of lexicons.now) i users)) so_far)
 
-    pub user_refused : IsUsersRefusal system (users_of users) told
-    user_refused = users_refusal (users_of users) i (lexicons_of (get_or users i d).now) (there_in users i d low) so_far_compile fault told ends refused
+    pub user_refused : IsUsersError system (users_of users) reported
+    user_refused = users_refusal (users_of users) i (lexicons_of (get_or users i d).now) (there_in users i d low) so_far_compile fault reported ends rejected
 
-    pub user_first : (k : ℕ) (first : SourceFault) → IsOfUser (IsUserFault system) system (users_of users) k first → IsToldFor (run.UserSource k first) told
-    user_first = users_first (users_of users) i (lexicons_of (get_or users i d).now) (there_in users i d low) so_far_compile fault told ends refused
+    pub user_first : (k : ℕ) (first : SourceFault) → IsOfUser (IsUserFault system) system (users_of users) k first → IsReportedFor (run.UserSource k first) reported
+    user_first = users_first (users_of users) i (lexicons_of (get_or users i d).now) (there_in users i d low) so_far_compile fault reported ends rejected
 
-  -- no user is left
+  -- no user remains
   pub users_end : (users : List Given) (i : ℕ) (dicts : List (List ℕ)) → length users ≤ i → AllZip (IsUserDictOf system) (users_of (take i users)) dicts → AllZip (IsUserDictOf system) (users_of users) dicts
   users_end users i dicts all h = subst (λ us. AllZip (IsUserDictOf system) (users_of us) dicts) (take_all i users all) h

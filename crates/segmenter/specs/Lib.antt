@@ -2,4 +2,5 @@ pub mod OneOutput
 pub mod JoinedTexts
 pub mod SourceRuns
 pub mod SourceDicts
-pub mod EarlyFaults
+pub mod SourceFaults
+pub mod Segmentation

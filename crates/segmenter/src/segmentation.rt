@@ -1,25 +1,27 @@
-//! From text to words.
+//! Segments text with loaded dictionaries.
 
-ghost use Rattle.std.specs.Prelude.{◌<◌};
-ghost use Rattle.mj_model.specs.declared.limits.TheConstants.{READS_MAX as ReadsMax};
-ghost use Rattle.paths.specs.PathLaws.{CoversTexts};
-ghost use Rattle.line_stream.specs.GoodRuns.{IsOkOrMemory, NothingFails};
-ghost use Rattle.words_printer.specs.PrintedLines.{Tells};
-ghost use Rattle.line_stream.specs.Runs.{MayRun, Ran};
+ghost use Rattle.std.specs.Prelude.{◌<◌, IfOk};
 ghost use Rattle.word_lookup.specs.Overlays.{overlay_of};
+ghost use Rattle.mj_model.specs.declared.limits.TheConstants.{READS_MAX as ReadsMax};
+ghost use Rattle.mj_model.specs.PathLaws.{CoversTexts};
+ghost use Rattle.line_stream.specs.GoodRuns.{IsOkOrMemory, NothingFails};
+ghost use Rattle.out_format.specs.PrintedLines.{LineResult};
+ghost use Rattle.line_stream.specs.Runs.{MayRun, RunOutcome};
+ghost use Rattle.segmenter.specs.Segmentation.{WroteSegmentation};
 
 use line_stream::run_over;
 use mj_model::{READS_MAX, RunFault, TextIn, TextOut};
 use out_format::Format;
+use out_format::words_printer::{LineBuffers, WordsPrinter};
 use std::alloc::Global;
 use word_lookup::Dictionaries;
-use words_printer::{LineMemory, WordsPrinter};
 
-/// Cuts the text of a reader into words and writes them in a format; answers the number of lines.
+/// Segments the text of `reader` line by line and writes the words of each line to `writer` in
+/// `format`. Returns the number of lines.
 ///
-/// It works through the bytes of one read before it reads again, and flushes the writer once, at the end of the input; after a
-/// fault the caller flushes. Output of more than 64 KiB is written before the next line prints. Each count of reader and writer is
-/// below 2^63 at entry.
+/// The lines of one read are processed before the next read. Output of more than 64 KiB is written
+/// before the next line is printed. The writer is flushed once, at the end of the input. After an
+/// error the caller flushes. Each counter of reader and writer must be below 2^63 at the start.
 pub fn segment<R: TextIn, W: TextOut>(
     alloc: Global,
     dictionaries: &Dictionaries<'_>,
@@ -27,21 +29,27 @@ pub fn segment<R: TextIn, W: TextOut>(
     reader: &mut R,
     writer: &mut W,
 ) -> Result<u64, RunFault>
-    requires counts { MayRun (R.told reader.old) (W.told writer.old) }
-    // The dictionaries cover every text: each has exactly one best path.
+    requires counts { MayRun (R.state reader.old) (W.state writer.old) }
+    // Each UTF-8 text has exactly one best path.
     ensures covered { CoversTexts (overlay_of dictionaries.now) }
+    // If the result is Ok, the whole text was read, all its lines are valid, and its segmentation
+    // was written and flushed once: for each line the formatted words of its best path. The clause
+    // speaks of some text if it is not known which bytes the reader has or the writer holds.
+    ensures ok { IfOk result (WroteSegmentation (overlay_of dictionaries.now) format.now
+        (R.state reader.old) (R.state reader.new) (W.state writer.old) (W.state writer.new)) }
     // What was read, what was written, how the run ended, and where the reader is.
-    ensures run { Ran (Tells (overlay_of dictionaries.now) format.now) ReadsMax
-        (R.told reader.old) (R.told reader.new) (W.told writer.old) (W.told writer.new) result }
-    // Where no line is bad, no call fails and the end comes within the bound, it is Ok or Memory.
-    ensures succeeds { NothingFails ReadsMax (R.told reader.old) (R.told reader.new)
-        (W.told writer.old) (W.told writer.new) → IsOkOrMemory result }
+    ensures run { RunOutcome (LineResult (overlay_of dictionaries.now) format.now) ReadsMax
+        (R.state reader.old) (R.state reader.new) (W.state writer.old) (W.state writer.new) result }
+    // If no line is invalid, no call fails and the input ends within the bound, the result is Ok or
+    // `Memory`.
+    ensures succeeds { NothingFails ReadsMax (R.state reader.old) (R.state reader.new)
+        (W.state writer.old) (W.state writer.new) → IsOkOrMemory result }
 {
     let printer = WordsPrinter {
         alloc,
         dictionaries: *dictionaries,
         format,
     };
-    let mut kept = LineMemory::new(alloc);
-    run_over(alloc, &printer, &mut kept, reader, writer, READS_MAX)
+    let mut kept = LineBuffers::new(alloc);
+    Ok(run_over(alloc, &printer, &mut kept, reader, writer, READS_MAX)?)
 }

@@ -1,5 +1,7 @@
-//! Tests of what dictionaries are made of: counted streams, lines of sources, connection costs, categories and maps of byte strings. Nothing
-//! else stands here: a crate with tests is proved once with them and once without.
+//! Tests of what dictionaries are built from: counted streams, source lines, connection costs,
+//! character categories and double arrays.
+//!
+//! The crate has only tests, because a crate with tests is proved twice: with them and without.
 #![tactic(auto)]
 
 #[cfg(test)]

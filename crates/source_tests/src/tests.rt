@@ -1,4 +1,4 @@
-//! What the public calls of each crate answer.
+//! Tests of the public calls, grouped by crate.
 mod faults;
 mod of_cells;
 mod of_char_def;

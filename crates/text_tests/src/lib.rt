@@ -1,5 +1,7 @@
-//! Tests of texts that are cut: formats, runs, and the library that cuts lines in process. Nothing else stands here: a crate with tests is
-//! proved once with them and once without.
+//! Tests of the segmentation of texts: formats, runs, and the library that segments lines in
+//! process.
+//!
+//! The crate has only tests, because a crate with tests is proved twice: with them and without.
 #![tactic(auto)]
 
 #[cfg(test)]

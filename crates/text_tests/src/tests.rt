@@ -1,5 +1,5 @@
-//! What the public calls of each crate answer.
-mod of_cutter;
+//! Tests of the public calls, grouped by crate.
+mod of_line_segmenter;
 mod of_line_stream;
 mod of_out_format;
 mod of_segmenter;

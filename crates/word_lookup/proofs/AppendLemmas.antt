@@ -1,10 +1,10 @@
--- What was appended to a list, and what outcomes say.
+-- What was appended to a list, and outcomes.
 use Rattle.std.proofs.Common.{◌≡◌, ℕ, Bool, true, false, List, ◌++◌, length, take, sym, ap, ◌∙◌, arith}
 use Rattle.std.specs.Prelude.{Result, Ok, Err, OnOk, OnErr, is_err}
 use Rattle.std.proofs.lemmas.Bool.{true≢false}
 use Rattle.std.proofs.lemmas.List.{length-take, length-append, take_at, take-take}
 
--- what stood there before stays where it was
+-- earlier elements stay in place
 pub front_kept : {X : Type 0} (n m : ℕ) (before more all : List X) → n ≡ length before → take m all ≡ before ++ more → take n all ≡ before
 front_kept n m before more all is front =
     let long = ap length front in

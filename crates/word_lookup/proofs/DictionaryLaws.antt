@@ -1,4 +1,4 @@
--- The laws of words and paths over dictionaries: each is what the search asks for.
+-- The laws of words and paths over dictionaries: each is a precondition of the search.
 use Rattle.std.proofs.Common.{◌≡◌, ℕ, ◌≤◌, true, false, ◌==◌, List, [], ◌∷◌, length, map, refl, subst}
 use Rattle.std.specs.Prelude.{IsTrue, IsUtf8}
 use Rattle.std.specs.List.{AllByRecursion}
@@ -6,26 +6,26 @@ use Rattle.std.proofs.lemmas.Bool.{and_parts, eqb-true}
 use Rattle.mj_model.specs.declared.limits.TheConstants.{SENTENCE_MAX}
 use Rattle.mj_model.specs.declared.matrix_sizes.MatrixSizes.{MatrixSizes}
 use Rattle.mj_model.specs.Connection.{is_pair}
-use Rattle.image_bytes.specs.ImageMeaning.{image_tables}
-use Rattle.mj_model.specs.Tables.{HasText, HasApartTokens, Kind, System, User, Tables, Lexeme, lexicons_of}
-use Rattle.paths.specs.Blanks.{space}
-use Rattle.paths.specs.Laws.{HasWords, CoversAll}
+use Rattle.image_format.specs.ImageMeaning.{image_tables}
+use Rattle.mj_model.specs.Tables.{HasText, HasDistinctTokens, Kind, System, User, Tables, Lexeme, lexicons_of}
+use Rattle.mj_model.specs.Blanks.{space}
+use Rattle.mj_model.specs.Laws.{HasWords, CoversAll}
 use Rattle.mj_model.specs.Overlays.{is_user, are_same_sizes}
-use Rattle.paths.specs.Searchable.{IsSearchable}
-use Rattle.paths.specs.Words.{is_place, words}
+use Rattle.mj_model.specs.Searchable.{IsSearchable}
+use Rattle.mj_model.specs.Words.{is_place, words}
 use Rattle.word_lookup.specs.declared.dictionaries.Dictionaries.{Dictionaries}
 use Rattle.word_lookup.specs.Fitting.{AreLaidOver, IsUserOf}
 use Rattle.word_lookup.specs.Overlays.{overlay_of}
 use Rattle.word_lookup.proofs.UserLemmas.{laid_over}
 use Rattle.word_lookup.proofs.OverlayLaws.{searchable_overlay, EntriesFit, IsFittingLexeme}
 
--- ---- the users
+-- ---- user dictionaries
 
 users_text : (sizes : MatrixSizes) (users : List Tables) → AllByRecursion (IsUserOf sizes) users → AllByRecursion (AllByRecursion HasText) (lexicons_of users)
 users_text sizes [] all = tt
 users_text sizes (user ∷ users) all = (all.0.fits.surfaces, users_text sizes users all.1)
 
-users_apart : (sizes : MatrixSizes) (users : List Tables) → AllByRecursion (IsUserOf sizes) users → AllByRecursion (λ lexicon. HasApartTokens (map (λ (e : Lexeme). e.token) lexicon)) (lexicons_of users)
+users_apart : (sizes : MatrixSizes) (users : List Tables) → AllByRecursion (IsUserOf sizes) users → AllByRecursion (λ lexicon. HasDistinctTokens (map (λ (e : Lexeme). e.token) lexicon)) (lexicons_of users)
 users_apart sizes [] all = tt
 users_apart sizes (user ∷ users) all = (all.0.fits.lexicon_apart, users_apart sizes users all.1)
 
@@ -83,7 +83,7 @@ entries_fit d =
       unknown_fit = f.fits.unknown;
     }
 
--- a line over dictionaries may be searched
+-- a line over dictionaries can be searched
 pub searchable : (d : Dictionaries) (text : List ℕ) → IsUtf8 text → length text ≤ SENTENCE_MAX
     → IsSearchable (λ p. IsTrue (is_place text p)) (λ right left. IsTrue (is_pair (overlay_of d).system.sizes right left)) (words (overlay_of d) text) (overlay_of d).system.connection (length text)
 unfolding overlay_of

@@ -6,7 +6,7 @@ use Rattle.std.proofs.lemmas.List.{length-append}
 use Rattle.std.proofs.lemmas.Option.{same_Some}
 use Rattle.std.proofs.lemmas.Str.{encodes-chars, length-encode}
 use Rattle.mj_model.specs.declared.category.CharInfo.{CharInfo}
-use Rattle.word_lookup.specs.CharacterRuns.{IsFirst}
+use Rattle.word_lookup.specs.CategoryScans.{IsFirst}
 use Rattle.word_lookup.specs.FirstCharacters.{first_in}
 use Rattle.word_lookup.specs.declared.first_character.FirstCharacter.{FirstCharacter}
 use Rattle.word_lookup.proofs.PlaceLemmas.{first_taken}
@@ -17,10 +17,10 @@ bytes_taken text bytes rest left c same spelled is =
     let all = ap length (sym same ∙ spelled) in
     let both = length-append (encode_utf8 c) rest in
     let one = length-encode c in
-    let behind = ap length is in
-    omega (arith, all, both, one, behind)
+    let suffix = ap length is in
+    omega (arith, all, both, one, suffix)
 
--- what was found is what is said of it
+-- a first character with its bytes and categories is the one of the definition
 pub first_is : (info : ℕ → CharInfo) (all rest : List ℕ) (c bytes : ℕ) (entry : CharInfo) → all ≡ c ∷ rest → bytes ≡ len_utf8 c → entry ≡ info c
     → Some (record { character = c; bytes = bytes; info = entry }) ≡ first_in info all
 first_is info all rest c bytes entry split width is = (λ i. Some (record { character = c; bytes = width i; info = is i })) ∙ sym (ap (first_in info) split)
@@ -28,7 +28,7 @@ first_is info all rest c bytes entry split width is = (λ i. Some (record { char
 pub none_is : (info : ℕ → CharInfo) (all : List ℕ) → all ≡ [] → None ≡ first_in info all
 none_is info all none = sym (ap (first_in info) none)
 
--- what is said of it is so
+-- the first character of a text has its bytes and its categories
 pub record IsFound (info : ℕ → CharInfo) (text : List ℕ) (f : FirstCharacter) : Type 0 where
   pub first : IsFirst text f.character (len_utf8 f.character)
   pub bytes : f.bytes ≡ len_utf8 f.character
@@ -47,7 +47,7 @@ found_by info text f (c ∷ cs) u split h =
 pub found : (info : ℕ → CharInfo) (text : List ℕ) (f : FirstCharacter) → IsUtf8 text → Some f ≡ first_in info (chars text) → IsFound info text f
 found info text f u h = found_by info text f (chars text) u refl (sym h)
 
--- one that is there was found, whatever stands in its place where there is none
+-- a first character that exists was found, whatever the default is
 pub found_or : (info : ℕ → CharInfo) (cs : List ℕ) (seen : Option FirstCharacter) (default f : FirstCharacter) → seen ≡ first_in info cs → f ≡ unwrap_or seen default → (cs ≡ [] → ⊥) → Some f ≡ first_in info cs
 found_or info [] seen default f is e some = absurd (some refl)
 found_or info (c ∷ cs) seen default f is e some = ap Some (e ∙ ap (λ (o : Option FirstCharacter). unwrap_or o default) is)

@@ -1,4 +1,5 @@
--- The known words of a place, surface by surface: those of each prefix of the text that is a surface, the shortest first.
+-- The known words of a position, surface by surface: those of each prefix of the text that is a
+-- surface, the shortest first.
 use Rattle.std.proofs.Common.{◌≡◌, ℕ, ◌+◌, ◌≤◌, Bool, true, false, cond, List, [], ◌∷◌, ◌++◌, length, take, map, flat_map, sym, ap, ◌∙◌, refl, arith, inl, inr}
 use Rattle.std.specs.Prelude.{filter, bytes_eq}
 use Rattle.std.proofs.lemmas.Bool.{lt-ltb}
@@ -6,16 +7,16 @@ use Rattle.std.proofs.lemmas.List.{length-take-le}
 use Rattle.std.proofs.lemmas.Slice.Eq.{bytes_eq-Decides}
 use Rattle.mj_model.specs.declared.word.Word.{Word}
 use Rattle.mj_model.specs.declared.word.Origin.TheVariants.{Known}
-use Rattle.image_bytes.specs.ImageMeaning.{entries_under}
-use Rattle.mj_model.specs.Lists.{up_to, StandsIn}
-use Rattle.paths.specs.KnownWords.{word_of, known_word, entries_of_length, known_in}
+use Rattle.image_format.specs.ImageMeaning.{entries_under}
+use Rattle.mj_model.specs.Lists.{up_to, IsMember}
+use Rattle.mj_model.specs.KnownWords.{word_of, known_word, entries_of_length, known_in}
 use Rattle.mj_model.specs.Tables.{Lexeme, Token}
 use Rattle.mj_model.proofs.Members.{in_up_to}
 use Rattle.dict_image.specs.Prefixes.{has_entries, prefix_at, prefixes_in}
-use Rattle.paths.specs.declared.entry_list.EntryList.TheVariants.{Lexicon}
+use Rattle.mj_model.specs.declared.paths.entry_list.EntryList.TheVariants.{Lexicon}
 use Rattle.word_lookup.specs.EntryWords.{entry_word}
 
--- the words of a surface that begins the text
+-- the words of a surface that is a prefix of the text
 abbrev pub prefix_words : ℕ → ℕ → ℕ → ℕ × List Token → List Word
 prefix_words dict place start prefix = map (entry_word (Lexicon dict) place start (start + prefix.0)) prefix.1
 
@@ -46,7 +47,7 @@ skipped dict place start n [] prefixes = refl
 skipped dict place start n (t ∷ ts) prefixes =
     sym (ap (λ (b : Bool). flat_map (prefix_words dict place start) (cond b ((n, t ∷ ts) ∷ prefixes) prefixes)) (lt-ltb 0 (length (t ∷ ts)) (omega arith)))
 
-found_at : (dict place start : ℕ) (text : List ℕ) (lexicon : List Lexeme) (ns : List ℕ) → ((n : ℕ) → StandsIn ns n → n ≤ length text)
+found_at : (dict place start : ℕ) (text : List ℕ) (lexicon : List Lexeme) (ns : List ℕ) → ((n : ℕ) → IsMember ns n → n ≤ length text)
     → flat_map (λ n. map (known_word place start dict) (entries_of_length text lexicon n)) ns ≡ flat_map (prefix_words dict place start) (filter has_entries (map (prefix_at text lexicon) ns))
 found_at dict place start text lexicon [] within = refl
 found_at dict place start text lexicon (n ∷ ns) within =
@@ -56,6 +57,6 @@ found_at dict place start text lexicon (n ∷ ns) within =
     ∙ ap (λ (ws : List Word). prefix_words dict place start (prefix_at text lexicon n) ++ ws) (found_at dict place start text lexicon ns (λ m h. within m (inr h)))
     ∙ skipped dict place start n (entries_under (take n text) lexicon) (filter has_entries (map (prefix_at text lexicon) ns))
 
--- the words of a lexicon are those of the surfaces that begin the text
+-- the words of a lexicon are those of the surfaces that are prefixes of the text
 pub known_by_prefixes : (dict place start : ℕ) (text : List ℕ) (lexicon : List Lexeme) → known_in place start text dict lexicon ≡ flat_map (prefix_words dict place start) (prefixes_in text lexicon)
 known_by_prefixes dict place start text lexicon = found_at dict place start text lexicon (up_to (length text)) (λ n h. (in_up_to (length text) n h).1)

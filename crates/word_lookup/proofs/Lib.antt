@@ -6,8 +6,8 @@ pub mod UnknownWords
 pub mod KnownFound
 pub mod PlaceLemmas
 pub mod FirstLemmas
-pub mod BlankRunLemmas
-pub mod CharacterRunLemmas
+pub mod BlankScanLemmas
+pub mod CategoryScanLemmas
 pub mod OverlayLaws
 pub mod DictionaryLaws
 pub mod FeatureLemmas

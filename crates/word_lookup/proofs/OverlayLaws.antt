@@ -1,4 +1,4 @@
--- What the search asks of an overlay whose entries have ids within the sizes.
+-- What the search requires of an overlay whose entries have ids within the sizes.
 use Rattle.std.proofs.Common.{ℕ, suc, ◌≤◌, ◌^◌, Bool, true, false, cond, ◌&&◌, List, [], ◌∷◌, ◌++◌, length, take, drop, map, Contains, arith, subst, inl, inr}
 use Rattle.std.specs.Prelude.{IsTrue, IsUtf8, nat_lt, bytes_eq}
 use Rattle.std.specs.List.{AllByRecursion}
@@ -6,19 +6,19 @@ use Rattle.std.proofs.lemmas.Bool.{and_parts, and_from}
 use Rattle.mj_model.specs.declared.limits.TheConstants.{SENTENCE_MAX}
 use Rattle.mj_model.specs.declared.word.Word.{Word}
 use Rattle.mj_model.specs.Bounds.{IsWithin}
-use Rattle.paths.specs.Blanks.{skip, chars_from}
+use Rattle.mj_model.specs.Blanks.{skip, chars_from}
 use Rattle.mj_model.specs.declared.matrix_sizes.MatrixSizes.{MatrixSizes}
 use Rattle.mj_model.specs.Connection.{is_pair}
-use Rattle.mj_model.specs.Lists.{up_to, StandsIn}
-use Rattle.paths.specs.KnownWords.{known_word, entries_of_length, known_in, known_from, known_words}
-use Rattle.paths.specs.Laws.{HasWords}
-use Rattle.paths.specs.Run.{bytes_of}
+use Rattle.mj_model.specs.Lists.{up_to, IsMember}
+use Rattle.mj_model.specs.KnownWords.{known_word, entries_of_length, known_in, known_from, known_words}
+use Rattle.mj_model.specs.Laws.{HasWords}
+use Rattle.mj_model.specs.Run.{bytes_of}
 use Rattle.mj_model.specs.Tables.{Lexeme, Overlay, lexicons}
-use Rattle.paths.specs.UnknownSpans.{spans}
-use Rattle.paths.specs.Words.{is_empty, is_place, unknown, unknown_word, words}
+use Rattle.mj_model.specs.UnknownSpans.{spans}
+use Rattle.mj_model.specs.Words.{is_empty, is_place, unknown, unknown_word, words}
 use Rattle.mj_model.proofs.Members.{in_from_Contains, in_append, in_map, in_filter, in_flat_map, holds_in}
-use Rattle.paths.proofs.PlaceWords.{place_there, words_keep_places}
-use Rattle.paths.specs.Searchable.{IsSearchable}
+use Rattle.mj_model.proofs.PlaceWords.{place_there, words_keep_places}
+use Rattle.mj_model.specs.Searchable.{IsSearchable}
 use Rattle.dict_image.specs.Fitting.{IsFitting}
 
 -- ---- each word is of an entry that fits
@@ -34,21 +34,21 @@ pub record EntriesFit (sizes : MatrixSizes) (o : Overlay) : Type 0 where
 abbrev pub IsFittingWord : MatrixSizes → Word → Type 0
 IsFittingWord sizes w = IsTrue (is_pair sizes w.right w.left) × IsWithin (2 ^ 15) w.cost
 
-fitting_in : (sizes : MatrixSizes) (place start : ℕ) (text : List ℕ) (dict : ℕ) (lexicon : List Lexeme) (w : Word) → AllByRecursion (IsFittingLexeme sizes) lexicon → StandsIn (known_in place start text dict lexicon) w → IsFittingWord sizes w
+fitting_in : (sizes : MatrixSizes) (place start : ℕ) (text : List ℕ) (dict : ℕ) (lexicon : List Lexeme) (w : Word) → AllByRecursion (IsFittingLexeme sizes) lexicon → IsMember (known_in place start text dict lexicon) w → IsFittingWord sizes w
 fitting_in sizes place start text dict lexicon w all h =
     let r = in_flat_map (λ n. map (known_word place start dict) (entries_of_length text lexicon n)) (up_to (length text)) w h in
     let m = in_map (known_word place start dict) (entries_of_length text lexicon r.0) w r.2 in
     let f = in_filter (λ e. bytes_eq e.surface (take r.0 text)) lexicon m.0 m.1 in
     subst (IsFittingWord sizes) m.2 (holds_in (IsFittingLexeme sizes) lexicon m.0 all f.0)
 
-fitting_from : (sizes : MatrixSizes) (place start : ℕ) (text : List ℕ) (dict : ℕ) (all : List (List Lexeme)) (w : Word) → AllByRecursion (AllByRecursion (IsFittingLexeme sizes)) all → StandsIn (known_from place start text dict all) w → IsFittingWord sizes w
+fitting_from : (sizes : MatrixSizes) (place start : ℕ) (text : List ℕ) (dict : ℕ) (all : List (List Lexeme)) (w : Word) → AllByRecursion (AllByRecursion (IsFittingLexeme sizes)) all → IsMember (known_from place start text dict all) w → IsFittingWord sizes w
 fitting_from sizes place start text dict [] w fit h = absurd h
 fitting_from sizes place start text dict (lexicon ∷ more) w fit h = elim (in_append (known_in place start text dict lexicon) (known_from place start text (suc dict) more) w h) [
   | inl i ↦ fitting_in sizes place start text dict lexicon w fit.0 i
   | inr j ↦ fitting_from sizes place start text (suc dict) more w fit.1 j
 ]
 
-fitting_unknown : (sizes : MatrixSizes) (o : Overlay) (none_known : Bool) (place start : ℕ) (cs : List ℕ) (w : Word) → ((i : ℕ) → AllByRecursion (IsFitting sizes) (o.system.unknown i)) → StandsIn (unknown o none_known place start cs) w → IsFittingWord sizes w
+fitting_unknown : (sizes : MatrixSizes) (o : Overlay) (none_known : Bool) (place start : ℕ) (cs : List ℕ) (w : Word) → ((i : ℕ) → AllByRecursion (IsFitting sizes) (o.system.unknown i)) → IsMember (unknown o none_known place start cs) w → IsFittingWord sizes w
 fitting_unknown sizes o none_known place start [] w fit h = absurd h
 fitting_unknown sizes o none_known place start (c ∷ cs) w fit h =
     let ts = o.system.unknown (o.system.info c).head in
@@ -57,7 +57,7 @@ fitting_unknown sizes o none_known place start (c ∷ cs) w fit h =
     subst (IsFittingWord sizes) m.2 (holds_in (IsFitting sizes) ts m.0 (fit (o.system.info c).head) m.1)
 
 fitting_by : (sizes : MatrixSizes) (o : Overlay) (text : List ℕ) (p : ℕ) (w : Word) (b : Bool) → EntriesFit sizes o
-    → StandsIn (cond b (known_words o text p ++ unknown o (is_empty (known_words o text p)) p (skip o text p) (chars_from text (skip o text p))) []) w → IsFittingWord sizes w
+    → IsMember (cond b (known_words o text p ++ unknown o (is_empty (known_words o text p)) p (skip o text p) (chars_from text (skip o text p))) []) w → IsFittingWord sizes w
 fitting_by sizes o text p w false fit h = absurd h
 fitting_by sizes o text p w true fit h = elim (in_append (known_words o text p) (unknown o (is_empty (known_words o text p)) p (skip o text p) (chars_from text (skip o text p))) w h) [
   | inl i ↦ fitting_from sizes p (skip o text p) (drop (skip o text p) text) 0 (lexicons o) w fit.known_fit i

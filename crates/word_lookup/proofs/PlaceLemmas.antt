@@ -1,4 +1,4 @@
--- Places of a text, and the blanks there.
+-- Positions of a text, and the blanks there.
 use Rattle.std.proofs.Common.{◌≡◌, ℕ, ◌+◌, ◌-◌, ◌<◌, ◌≤◌, Bool, true, cond, ◌&&◌, List, [], ◌∷◌, ◌++◌, length, take, drop, get_or, sym, ap, ◌∙◌, refl, arith, subst}
 use Rattle.std.specs.Prelude.{IsTrue, IsUtf8, chars, encode_utf8, encode_utf8_all, min, nat_le, nat_lt}
 use Rattle.std.specs.Char.{len_utf8}
@@ -7,15 +7,15 @@ use Rattle.std.proofs.lemmas.Bool.{and_parts, and_from, and_right, leb-true, lt-
 use Rattle.std.proofs.lemmas.List.{nil_from_length, get_or-drop, length-drop, length-append, length-take, drop-drop, drop_at, take-append-drop}
 use Rattle.std.proofs.lemmas.Str.{IsCharBoundary-start, IsCharBoundary-from_drop, IsUtf8-take, chars-append, IsUtf8-from_is_utf8, length-le-encodes, length-encode, encodes-chars, chars_past_char}
 use Rattle.mj_model.specs.declared.category.CharInfo.{CharInfo}
-use Rattle.paths.specs.Blanks.{skip, space, chars_from}
-use Rattle.paths.specs.KnownWords.{known_words}
-use Rattle.paths.specs.Run.{run, bytes_of}
+use Rattle.mj_model.specs.Blanks.{skip, space, chars_from}
+use Rattle.mj_model.specs.KnownWords.{known_words}
+use Rattle.mj_model.specs.Run.{run, bytes_of}
 use Rattle.mj_model.specs.Tables.{Overlay, Token}
-use Rattle.paths.specs.UnknownSpans.{spans}
-use Rattle.paths.specs.Words.{is_place, is_empty, unknown, words}
-use Rattle.paths.proofs.CharBytes.{run_within, chars_within, text_behind, text_behind_blanks}
-use Rattle.paths.proofs.PlaceWords.{place_there}
-use Rattle.word_lookup.specs.CharacterRuns.{IsFirst}
+use Rattle.mj_model.specs.UnknownSpans.{spans}
+use Rattle.mj_model.specs.Words.{is_place, is_empty, unknown, words}
+use Rattle.mj_model.proofs.CharBytes.{run_within, chars_within, text_behind, text_behind_blanks}
+use Rattle.mj_model.proofs.PlaceWords.{place_there}
+use Rattle.word_lookup.specs.CategoryScans.{IsFirst}
 use Rattle.word_lookup.specs.UnknownEntries.{words_of_spans}
 
 pub place_within : (text : List ℕ) (p : ℕ) → IsTrue (is_place text p) → p ≤ length text
@@ -34,9 +34,10 @@ boundary text p h =
     let long = length-drop p text in
     (low, λ less above. let r = start.1 (omega (arith, long, less)) (omega (arith, here, above)) in omega (arith, r, here))
 
--- ---- the characters around a place
+-- ---- the characters around a position
 
--- a text from one place on is the characters up to another place, which take the bytes between, and those from there on
+-- a text from one position on is the characters up to another position, which take the bytes
+-- between, and those from there on
 pub record IsParted (text : List ℕ) (from place : ℕ) : Type 0 where
   pub before : List ℕ
   pub are : before ≡ chars (take (place - from) (drop from text))
@@ -51,15 +52,15 @@ parted text from place first second low =
     let within = place_within text place second in
     let long = length-drop from text in
     let at : from + n ≡ place = omega (arith, low) in
-    let behind : drop n rest ≡ drop place text = drop-drop n from text ∙ ap (λ (k : ℕ). drop k text) at in
-    let boundary = IsCharBoundary-from_drop rest n (omega (arith, within, long)) (subst IsUtf8 (sym behind) (text_there text place second)) in
+    let suffix : drop n rest ≡ drop place text = drop-drop n from text ∙ ap (λ (k : ℕ). drop k text) at in
+    let boundary = IsCharBoundary-from_drop rest n (omega (arith, within, long)) (subst IsUtf8 (sym suffix) (text_there text place second)) in
     let front = IsUtf8-take rest n utf8 boundary in
     let count = length-take n rest in
     let spelled = ap length (encodes-chars (take n rest) front) in
     record {
       before = chars (take n rest);
       are = refl;
-      chars_are = ap chars (sym (take-append-drop n rest)) ∙ chars-append (take n rest) (drop n rest) front ∙ ap (λ (bytes : List ℕ). chars (take n rest) ++ chars bytes) behind;
+      chars_are = ap chars (sym (take-append-drop n rest)) ∙ chars-append (take n rest) (drop n rest) front ∙ ap (λ (bytes : List ℕ). chars (take n rest) ++ chars bytes) suffix;
       bytes = omega (arith, spelled, count, within, long, low);
     }
 
@@ -88,7 +89,7 @@ blanks_are o text rest p entry n bytes h e s is b =
     let whole : n ≡ r = omega (arith, is, runs, few, short, spelled, long) in
     ap (λ (k : ℕ). p + k) (b ∙ ap (λ (k : ℕ). bytes_of k (chars rest)) whole ∙ ap (λ (t : List ℕ). bytes_of r (chars t)) e)
 
--- what stands behind the blanks of a place
+-- what follows the blanks of a position
 pub place_behind_blanks : (o : Overlay) (text : List ℕ) (p start : ℕ) → IsTrue (is_place text p) → start ≡ skip o text p → start ≤ length text → IsTrue (is_place text start)
 place_behind_blanks o text p start h e low =
     place_there text start low (subst (λ (k : ℕ). IsUtf8 (drop k text)) (sym e) (text_behind_blanks o text p (text_there text p h)))
@@ -118,7 +119,7 @@ first_taken text bytes rest c n u e h is =
     let spelled : text ≡ encode_utf8 c ++ rest = sym e ∙ h in
     let split = chars_past_char text rest c u spelled in
     let one = length-encode c in
-    let behind : drop n text ≡ rest = ap (drop n) spelled ∙ drop_at (encode_utf8 c) rest n (omega (arith, one, is)) in
+    let suffix : drop n text ≡ rest = ap (drop n) spelled ∙ drop_at (encode_utf8 c) rest n (omega (arith, one, is)) in
     let long = ap length spelled in
     let both = length-append (encode_utf8 c) rest in
     let low : n ≤ length text = omega (arith, long, both, one, is) in
@@ -126,7 +127,7 @@ first_taken text bytes rest c n u e h is =
     ap (bytes_of 1) split ∙ length-append (encode_utf8 c) [] ∙ omega (arith, one, is) in
     record {
       place = place_there text n low (subst (λ (k : ℕ). IsUtf8 (drop k text)) bytes_are (text_behind text 1 u));
-      split = split ∙ ap (λ (xs : List ℕ). c ∷ chars xs) (sym behind);
+      split = split ∙ ap (λ (xs : List ℕ). c ∷ chars xs) (sym suffix);
       long = (let d = length-drop n text in omega (arith, d, low));
       bytes = is;
     }
@@ -148,7 +149,7 @@ no_chars text rest u same none =
     let e = ap length same in
     nil_from_length (chars text) (omega (arith, short, spelled, e, none))
 
--- where no characters are left the text ends
+-- if no characters are left, the text ends
 pub ends_there : (text : List ℕ) (p : ℕ) → IsTrue (is_place text p) → chars_from text p ≡ [] → length text ≤ p
 ends_there text p h none =
     let spelled = ap length (encodes-chars (drop p text) (text_there text p h)) in

@@ -1,4 +1,4 @@
--- Entries whose numbers follow one another are those that stand at these places among all.
+-- Entries with consecutive numbers are those at these indices among all.
 use Rattle.std.proofs.Common.{◌≡◌, ℕ, zero, suc, ◌+◌, ◌-◌, ◌<◌, ◌≤◌, List, [], ◌∷◌, length, get_or, take, drop, map, filter, Some, inl, inr, sym, ap, ◌∙◌, refl, arith, subst}
 use Rattle.std.specs.Prelude.{slice_get, bytes_eq}
 use Rattle.std.specs.List.{AllByRecursion, range_with_len}
@@ -6,20 +6,20 @@ use Rattle.std.proofs.lemmas.Bool.{cases_lt, ltb-true}
 use Rattle.std.proofs.lemmas.List.{drop_more, length-take, length-drop, length-map}
 use Rattle.std.proofs.lemmas.Option.{get_or_from_slice_get, none-some, same_Some, slice_get_within}
 use Rattle.mj_model.specs.declared.word.Word.{Word}
-use Rattle.mj_model.specs.Lists.{up_to, StandsIn}
+use Rattle.mj_model.specs.Lists.{up_to, IsMember}
 use Rattle.mj_model.specs.Tables.{Lexeme, Tables, Token}
 use Rattle.mj_model.proofs.Members.{append_in, each_holds, flat_map_in, in_filter, in_map, in_up_to, map_in}
-use Rattle.image_bytes.specs.ImageMeaning.{entries_under}
+use Rattle.image_format.specs.ImageMeaning.{entries_under}
 use Rattle.dict_image.specs.declared.ids_and_cost.IdsAndCost.{IdsAndCost}
 use Rattle.dict_image.specs.Fitting.{AreFitting}
 use Rattle.dict_image.specs.Numbered.{numbered_tokens, unknown_tokens}
 use Rattle.dict_image.specs.Prefixes.{has_entries, prefix_at, prefixes_in}
-use Rattle.dict_image.specs.Seen.{ids_and_cost_of}
-use Rattle.paths.specs.declared.surface.Surface.{Surface}
+use Rattle.dict_image.specs.Views.{ids_and_cost_of}
+use Rattle.mj_model.specs.declared.paths.surface.Surface.{Surface}
 use Rattle.word_lookup.specs.EntryWords.{entry_word}
 use Rattle.word_lookup.specs.Surfaces.{word_with, words_among, words_by_ids}
 
--- an entry stands at the place of its number
+-- the index of an entry is its number
 abbrev pub StandsAtNumber : List Token → Token → Type 0
 StandsAtNumber all e = slice_get all e.number ≡ Some e
 
@@ -37,12 +37,12 @@ row_is all (t ∷ ts) first (suc n) numbers stand =
 
 -- ---- entries of a dictionary
 
-place_in : (xs : List Token) (x : Token) → StandsIn xs x → (i : ℕ) × (slice_get xs i ≡ Some x)
+place_in : (xs : List Token) (x : Token) → IsMember xs x → (i : ℕ) × (slice_get xs i ≡ Some x)
 place_in [] x h = absurd h
 place_in (y ∷ ys) x (inl e) = (0, ap Some e)
 place_in (y ∷ ys) x (inr h) = let r = place_in ys x h in (suc r.0, r.1)
 
-stand_at_numbers : (all part : List Token) → ((i : ℕ) (e : Token) → slice_get all i ≡ Some e → e.number ≡ i) → ((e : Token) → StandsIn part e → StandsIn all e) → AllByRecursion (StandsAtNumber all) part
+stand_at_numbers : (all part : List Token) → ((i : ℕ) (e : Token) → slice_get all i ≡ Some e → e.number ≡ i) → ((e : Token) → IsMember part e → IsMember all e) → AllByRecursion (StandsAtNumber all) part
 stand_at_numbers all part numbered within = each_holds (StandsAtNumber all) part (λ e h.
     let at = place_in all e (within e h) in
     ap (slice_get all) (numbered at.0 e at.1) ∙ at.1)
@@ -50,31 +50,31 @@ stand_at_numbers all part numbered within = each_holds (StandsAtNumber all) part
 abbrev token_of : Lexeme → Token
 token_of e = e.token
 
--- those of a surface
+-- the entries of a surface
 pub known_stand : (t : Tables) (key : List ℕ) → AreFitting t → AllByRecursion (StandsAtNumber (numbered_tokens t)) (entries_under key t.lexicon)
 known_stand t key fits =
     let has = λ (e : Lexeme). bytes_eq e.surface key in stand_at_numbers (numbered_tokens t) (entries_under key t.lexicon) fits.numbered (λ e h.
     let l = in_map token_of (filter has t.lexicon) e h in
-    let there : StandsIn (map token_of t.lexicon) e = subst (StandsIn (map token_of t.lexicon)) l.2 (map_in token_of t.lexicon l.0 (in_filter has t.lexicon l.0 l.1).0) in
+    let there : IsMember (map token_of t.lexicon) e = subst (IsMember (map token_of t.lexicon)) l.2 (map_in token_of t.lexicon l.0 (in_filter has t.lexicon l.0 l.1).0) in
     append_in (map token_of t.lexicon) (unknown_tokens t) e (inl there))
 
-up_to_in : (n i : ℕ) → i < n → StandsIn (up_to n) (suc i)
+up_to_in : (n i : ℕ) → i < n → IsMember (up_to n) (suc i)
 up_to_in zero i less = absurd (omega (arith, less))
 up_to_in (suc n) i less = elim (cases_lt i n) [
   | inl below ↦ append_in (up_to n) (suc n ∷ []) (suc i) (inl (up_to_in n i below))
   | inr high ↦ let e : suc n ≡ suc i = omega (arith, high, less) in append_in (up_to n) (suc n ∷ []) (suc i) (inr (inl e))
 ]
 
--- those of a category
+-- the entries of a category
 pub unknown_stand : (t : Tables) (i : ℕ) → AreFitting t → i < length t.categories → AllByRecursion (StandsAtNumber (numbered_tokens t)) (t.unknown i)
 unknown_stand t i fits less =
     let f = λ (n : ℕ). t.unknown (n - 1) in
     let one : suc i - 1 ≡ i = omega arith in
     stand_at_numbers (numbered_tokens t) (t.unknown i) fits.numbered (λ e h.
-    let here : StandsIn (f (suc i)) e = subst (λ (k : ℕ). StandsIn (t.unknown k) e) (sym one) h in
+    let here : IsMember (f (suc i)) e = subst (λ (k : ℕ). IsMember (t.unknown k) e) (sym one) h in
     append_in (map token_of t.lexicon) (unknown_tokens t) e (inr (flat_map_in f (up_to (length t.categories)) (suc i) e (up_to_in (length t.categories) i less) here)))
 
--- ---- surfaces that begin a text
+-- ---- surfaces that are prefixes of a text
 
 -- a prefix of so many bytes at most, with its entries
 pub record IsPrefix (n : ℕ) (all : List Token) (prefix : ℕ × List Token) : Type 0 where
@@ -110,7 +110,7 @@ get_in_drop (x ∷ xs) (suc n) i = let e : suc n + i ≡ suc (n + i) = omega ari
 pub get_in_row : (all : List Token) (first count i : ℕ) → i < count → slice_get (take count (drop first all)) i ≡ slice_get all (first + i)
 get_in_row all first count i less = get_in_take (drop first all) count i less ∙ get_in_drop all first i
 
--- a row that is whole lies among all
+-- a whole row lies within the list
 pub row_within : (all : List Token) (f : Token → Word) (first count : ℕ) → length (map f (take count (drop first all))) ≡ count → 0 < count → first + count ≤ length all
 row_within all f first count whole some =
     let a = length-map (take count (drop first all)) f in
@@ -137,7 +137,7 @@ words_of_row all s numbered = words_are s s.first (take s.count (drop s.first al
     let less : i < s.count = omega (arith, within, few) in
     numbered (s.first + i) t (sym (get_in_row all s.first s.count i less) ∙ at))
 
--- one of them
+-- one of the words of a row
 pub words_length : (s : Surface) (n : ℕ) (row : List IdsAndCost) → length (words_by_ids s n row) ≡ length row
 words_length s n [] = refl
 words_length s n (ids ∷ rest) = ap suc (words_length s (n + 1) rest)

@@ -1,4 +1,4 @@
--- The run at the beginning of a text, taken character by character up to a limit.
+-- The run at the start of a text, scanned character by character up to a limit.
 use Rattle.std.proofs.Common.{◌≡◌, ℕ, zero, suc, ◌+◌, ◌-◌, ◌<◌, ◌≤◌, Bool, true, false, cond, List, [], ◌∷◌, ◌++◌, length, take, drop, get_or, refl, sym, ap, ◌∙◌, arith, subst}
 use Rattle.std.specs.Prelude.{encode_utf8_all, encode_utf8, IsUtf8, chars}
 use Rattle.std.specs.Char.{len_utf8}
@@ -7,13 +7,13 @@ use Rattle.std.proofs.lemmas.List.{drop-drop, drop_at, length-append, length-dro
 use Rattle.std.proofs.lemmas.Str.{chars_past_char, length-encode, encodes-append}
 use Rattle.mj_model.specs.declared.category.CharInfo.{CharInfo}
 use Rattle.mj_model.specs.Categories.{shares}
-use Rattle.paths.specs.Run.{run, bytes_of}
+use Rattle.mj_model.specs.Run.{run, bytes_of}
 use Rattle.word_lookup.proofs.PlaceLemmas.{no_chars}
-use Rattle.paths.proofs.CharBytes.{bytes_within, chars_behind, chars_within, text_behind}
+use Rattle.mj_model.proofs.CharBytes.{bytes_within, chars_behind, chars_within, text_behind}
 
 -- ---- bytes
 
--- those of one character more
+-- the bytes of one character more
 pub one_more_byte : (cs : List ℕ) (k c : ℕ) → k < length cs → c ≡ get_or cs k c → bytes_of (k + 1) cs ≡ bytes_of k cs + len_utf8 c
 one_more_byte cs k c less at =
     let e = ap (λ (xs : List ℕ). length (encode_utf8_all xs)) (take_more cs k c less) in
@@ -24,13 +24,13 @@ one_more_byte cs k c less at =
     let j = ap len_utf8 at in
     omega (arith, e, f, g, h, i, j)
 
--- those of one character before others
+-- the bytes of one character before others
 pub bytes_behind : (n c : ℕ) (cs : List ℕ) → bytes_of (1 + n) (c ∷ cs) ≡ len_utf8 c + bytes_of n cs
 bytes_behind n c cs =
     let e : 1 + n ≡ suc n = omega arith in
     ap (λ (k : ℕ). bytes_of k (c ∷ cs)) e ∙ length-append (encode_utf8 c) (encode_utf8_all (take n cs)) ∙ ap (λ (k : ℕ). k + bytes_of n cs) (length-encode c)
 
--- those of characters and some behind them
+-- the bytes of characters and some after them
 pub bytes_through : (xs ys : List ℕ) (n : ℕ) → bytes_of (length xs + n) (xs ++ ys) ≡ length (encode_utf8_all xs) + bytes_of n ys
 bytes_through xs ys n =
     ap (λ (zs : List ℕ). length (encode_utf8_all zs)) (take-append-add xs ys n) ∙ ap length (encodes-append xs (take n ys))
@@ -42,7 +42,7 @@ bytes_before n xs ys low =
     let all = bytes_within n xs in
     omega (arith, same, all)
 
--- those of more characters
+-- the bytes of more characters
 pub bytes_join : (m n : ℕ) (cs : List ℕ) → bytes_of (m + n) cs ≡ bytes_of m cs + bytes_of n (drop m cs)
 bytes_join zero n cs = let e : 0 + n ≡ n = omega arith in let same = ap (λ (k : ℕ). bytes_of k cs) e in omega (arith, same)
 bytes_join (suc m) n [] = let a = bytes_within (suc m + n) [] in let b = bytes_within n [] in omega (arith, a, b)
@@ -75,7 +75,7 @@ module _ (info : ℕ → CharInfo) where
 
 -- ---- character by character
 
--- a text behind its first n characters
+-- a text after its first n characters
 pub record IsLeft (text left : List ℕ) (n : ℕ) : Type 0 where
   pub utf8 : IsUtf8 left
   pub chars_are : drop n (chars text) ≡ chars left
@@ -94,7 +94,7 @@ left_behind text left n u at =
       fits = omega (arith, within, short, long);
     }
 
--- one character more was taken
+-- one more character was scanned
 pub record IsTaken (text rest : List ℕ) (n c : ℕ) : Type 0 where
   pub chars_are : drop n (chars text) ≡ c ∷ drop (n + 1) (chars text)
   pub at : rest ≡ drop (bytes_of (n + 1) (chars text)) text
@@ -104,19 +104,20 @@ taken text left rest n c u at spelled =
     let cs = chars text in
     let before = left_behind text left n u at in
     let one = length-encode c in
-    let behind : drop (len_utf8 c) left ≡ rest = ap (drop (len_utf8 c)) spelled ∙ drop_at (encode_utf8 c) rest (len_utf8 c) (omega (arith, one)) in
+    let suffix : drop (len_utf8 c) left ≡ rest = ap (drop (len_utf8 c)) spelled ∙ drop_at (encode_utf8 c) rest (len_utf8 c) (omega (arith, one)) in
     let split : drop n cs ≡ c ∷ chars rest = before.chars_are ∙ chars_past_char left rest c before.utf8 spelled in
     let join = bytes_join n 1 cs in
     let width = ap (bytes_of 1) split ∙ bytes_behind 0 c (chars rest) in
     let bytes : bytes_of n cs + len_utf8 c ≡ bytes_of (n + 1) cs = omega (arith, join, width) in
-    let rest_at : rest ≡ drop (bytes_of (n + 1) cs) text =
-    sym behind ∙ ap (drop (len_utf8 c)) at ∙ drop-drop (len_utf8 c) (bytes_of n cs) text ∙ ap (λ (k : ℕ). drop k text) bytes in
-    record { chars_are = split ∙ ap (λ (ds : List ℕ). c ∷ ds) (ap chars rest_at ∙ chars_behind text (n + 1) u); at = rest_at }
+    let backward_cost_at : rest ≡ drop (bytes_of (n + 1) cs) text =
+    sym suffix ∙ ap (drop (len_utf8 c)) at ∙ drop-drop (len_utf8 c) (bytes_of n cs) text ∙ ap (λ (k : ℕ). drop k text) bytes in
+    record { chars_are = split ∙ ap (λ (ds : List ℕ). c ∷ ds) (ap chars backward_cost_at ∙ chars_behind text (n + 1) u); at = backward_cost_at }
 
 run_on_by : (n : ℕ) (b shared : Bool) → b ≡ shared → cond b (suc n) 0 ≡ cond shared (suc n) 0
 run_on_by n b shared e = ap (λ t. cond t (suc n) 0) e
 
--- a loop over the characters goes on, or ends at one that is not in the run, or at the end of the text
+-- a loop over the characters goes on, or ends at one that is not in the run, or at the end of the
+-- text
 pub turn : (info : ℕ → CharInfo) (entry last next : CharInfo) (cs ds : List ℕ) (n c : ℕ) → drop n cs ≡ c ∷ ds → n + run info last (drop n cs) ≡ run info entry cs → next ≡ info c → shares last next ≡ true
     → (n + 1) + run info next ds ≡ run info entry cs
 turn info entry last next cs ds n c split so_far is shared =

@@ -1,10 +1,10 @@
--- Words that come from the same entries have the same ids and the same cost, wherever they stand.
+-- Words that come from the same entries have the same ids and the same cost, at any positions.
 use Rattle.std.proofs.Common.{◌≡◌, ℕ, zero, suc, List, [], ◌∷◌, drop, map, take, Some, sym, ap, ◌∙◌, subst, slice_get}
 use Rattle.std.proofs.lemmas.Option.{same_Some}
 use Rattle.mj_model.specs.declared.word.Word.{Word}
 use Rattle.mj_model.specs.Tables.{Overlay, Token}
-use Rattle.paths.specs.declared.entry_list.EntryList.{EntryList}
-use Rattle.paths.specs.declared.surface.Surface.{Surface}
+use Rattle.mj_model.specs.declared.paths.entry_list.EntryList.{EntryList}
+use Rattle.mj_model.specs.declared.paths.surface.Surface.{Surface}
 use Rattle.word_lookup.specs.EntryWords.{entry_word}
 use Rattle.word_lookup.specs.SameEntries.{HaveSameEntries}
 use Rattle.word_lookup.specs.Surfaces.{surface_words, tokens_of}

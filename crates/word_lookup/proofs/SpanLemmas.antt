@@ -1,4 +1,4 @@
--- Unknown spans from what a bounded look ahead tells.
+-- Unknown spans from a run that was scanned up to a bound.
 use Rattle.std.proofs.Common.{◌≡◌, ℕ, zero, suc, ◌+◌, ◌-◌, ◌<◌, ◌≤◌, Bool, true, false, cond, ◌&&◌, ◌||◌, List, [], ◌∷◌, ◌++◌, length, take, filter, sym, ap, ◌∙◌, refl, arith, subst}
 use Rattle.std.specs.Char.{len_utf8}
 use Rattle.mj_model.specs.Tables.{no_category}
@@ -15,11 +15,11 @@ use Rattle.mj_model.specs.declared.category.Category.{Category}
 use Rattle.mj_model.specs.declared.category.CharInfo.{CharInfo}
 use Rattle.mj_model.specs.Categories.{shares}
 use Rattle.mj_model.specs.Lists.{up_to}
-use Rattle.paths.specs.Run.{run, alike, bytes_of}
-use Rattle.paths.specs.UnknownSpans.{grouped_span, length_spans, one_if_none, spans_of}
+use Rattle.mj_model.specs.Run.{run, sharing_with_first, bytes_of}
+use Rattle.mj_model.specs.UnknownSpans.{grouped_span, length_spans, one_if_none, spans_of}
 use Rattle.word_lookup.specs.declared.run.Run.{Run}
 use Rattle.word_lookup.specs.declared.spans.Spans.{Spans}
-use Rattle.word_lookup.specs.Spans.{grouped_spans, looked_ahead, spans_in, HasBytes}
+use Rattle.word_lookup.specs.Spans.{grouped_spans, lookahead, spans_in, HasBytes}
 use Rattle.word_lookup.proofs.RunLemmas.{bytes_behind}
 
 -- ---- lengths
@@ -62,7 +62,7 @@ lengths_by false len same following =
     filter_agree (λ n. nat_le n same && (not false || nat_lt n (1 + following))) (λ n. nat_le n same) (any_length same (1 + following)) (up_to len)
     ∙ up_to_bound same len
 
--- a run that was looked at far enough
+-- a run that was scanned far enough
 longest_seen : (group : Bool) (len same seen following limit seen_run : ℕ) → min len seen ≡ min len same → (group ≡ true → len ≤ limit) → seen_run ≡ min limit following
     → longest group len seen seen_run ≡ longest group len same following
 longest_seen true len same seen following limit seen_run e far is = let f = far refl in omega (arith, e, f, is)
@@ -111,7 +111,7 @@ pub no_spans : (category : Category) (none_known : Bool) (grouping whole same : 
 no_spans category none_known grouping whole same made =
     ap (λ (b : Bool). cond b (one_if_none none_known (grouped_span category grouping whole ++ length_spans category whole same)) []) made
 
--- ---- characters alike
+-- ---- characters that share a category
 
 front_prefix_by : (p : ℕ → Bool) (n : ℕ) (c : ℕ) (cs : List ℕ) (b : Bool) → prefix_len p (take n cs) ≡ min n (prefix_len p cs) → cond b (1 + prefix_len p (take n cs)) 0 ≡ min (suc n) (cond b (1 + prefix_len p cs) 0)
 front_prefix_by p n c cs true h = omega (arith, h)
@@ -143,7 +143,7 @@ more_by false len following all most seen is is_seen = omega (arith, is, is_seen
 alike_are : (p : ℕ → Bool) (n : ℕ) (cs : List ℕ) → length (take_while p (take n cs)) ≡ min n (prefix_len p cs)
 alike_are p n cs = let a = length-prefix_len p (take n cs) in let e = front_prefix p n cs in omega (arith, a, e)
 
--- the longest length without a look at those that are alike for sure
+-- the longest length, if no characters have to be compared
 pub few_alike_for_sure : (info : ℕ → CharInfo) (entry : CharInfo) (cs : List ℕ) (group : Bool) (len following most known : ℕ) → following ≤ run info entry cs
     → most ≡ longest group len len following → known ≡ cond group 2 1 → most ≤ known
     → most ≡ longest group len (1 + length (take_while (λ c. shares entry (info c)) (take len cs))) following
@@ -152,7 +152,7 @@ few_alike_for_sure info entry cs group len following most known low is is_known 
     few_by group len following (prefix_len (λ c. shares entry (info c)) cs) most known (omega (arith, second, low)) is is_known few
     ∙ ap (λ (n : ℕ). longest group len (1 + n) following) (sym (alike_are (λ c. shares entry (info c)) len cs))
 
--- the longest length by a look at one character fewer than there are lengths
+-- the longest length, after comparing one character fewer than there are lengths
 pub alike_up_to_longest : (p : ℕ → Bool) (cs : List ℕ) (group : Bool) (len following most seen : ℕ) → most ≡ longest group len len following → seen ≡ length (take_while p (take (most - 1) cs))
     → min most (1 + seen) ≡ longest group len (1 + length (take_while p (take len cs))) following
 alike_up_to_longest p cs group len following most seen is is_seen =
@@ -173,7 +173,7 @@ pub has_bytes : (b : Bool) (first : ℕ) (cs : List ℕ) (n bytes : ℕ) (groupe
     → (b ≡ true → bytes ≡ bytes_of n cs) → IfSome found (HasBytes (first ∷ cs))
 has_bytes b first cs n bytes grouped found e f h = subst (λ (o : Option Run). IfSome o (HasBytes (first ∷ cs))) (sym (e ∙ f)) (has_bytes_by b first cs n bytes h)
 
-alike_seen : (info : ℕ → CharInfo) (first limit : ℕ) (cs : List ℕ) (seen : ℕ) → seen ≡ length (take_while (λ c. shares (info first) (info c)) (take limit cs)) → min limit (1 + seen) ≡ min limit (alike info first cs)
+alike_seen : (info : ℕ → CharInfo) (first limit : ℕ) (cs : List ℕ) (seen : ℕ) → seen ≡ length (take_while (λ c. shares (info first) (info c)) (take limit cs)) → min limit (1 + seen) ≡ min limit (sharing_with_first info first cs)
 alike_seen info first limit cs seen is =
     let p = λ (c : ℕ). shares (info first) (info c) in
     let a = length-prefix_len p (take limit cs) in
@@ -188,46 +188,46 @@ pub spans_found : (info : ℕ → CharInfo) (category : Category) (none_known : 
     → spans.grouped ≡ cond (category.group && nat_le seen_run grouping) (Some (record { characters = 1 + seen_run; bytes = bytes })) None
     → spans.longest ≡ longest category.group category.length (1 + seen) seen_run
     → spans_in result ≡ one_if_none none_known (spans_in spans)
-    → spans_in result ≡ spans_of category none_known grouping (1 + run info (info first) cs) (alike info first cs)
+    → spans_in result ≡ spans_of category none_known grouping (1 + run info (info first) cs) (sharing_with_first info first cs)
 spans_found info category none_known grouping limit first cs seen_run seen bytes spans result made far far_enough is_run is_seen grouped long found =
     let g : grouped_spans spans.grouped ≡ grouped_seen category.group grouping seen_run = ap grouped_spans grouped ∙ grouped_found_by (category.group && nat_le seen_run grouping) (1 + seen_run) bytes in
     found
     ∙ ap (λ (xs : List ℕ). one_if_none none_known (xs ++ up_to spans.longest)) g
     ∙ ap (λ (n : ℕ). one_if_none none_known (grouped_seen category.group grouping seen_run ++ up_to n)) long
-    ∙ seen_spans category none_known grouping limit (run info (info first) cs) seen_run (alike info first cs) (1 + seen) made far far_enough is_run (alike_seen info first category.length cs seen is_seen)
+    ∙ seen_spans category none_known grouping limit (run info (info first) cs) seen_run (sharing_with_first info first cs) (1 + seen) made far far_enough is_run (alike_seen info first category.length cs seen is_seen)
 
--- so many characters as are looked at tell whether more follow than the grouping
+-- `lookahead` characters suffice to know whether more follow than the grouping
 ahead_of_grouping : (group : Bool) (grouping len : ℕ) → group ≡ true → grouping + 1 ≤ cond group (max (grouping + 1) len) 0
 ahead_of_grouping true grouping len is = omega arith
 ahead_of_grouping false grouping len is = absurd (cc)
 
--- and whether so many follow as LENGTH says
+-- and whether LENGTH many follow
 ahead_of_lengths : (group : Bool) (grouping len : ℕ) → group ≡ true → len ≤ cond group (max (grouping + 1) len) 0
 ahead_of_lengths true grouping len is = omega arith
 ahead_of_lengths false grouping len is = absurd (cc)
 
--- a run that is grouped ends before as many characters as are looked at
+-- a grouped run ends within `lookahead` characters
 pub grouped_below : (group : Bool) (grouping len limit n : ℕ) → limit ≡ cond group (max (grouping + 1) len) 0 → (group && nat_le n grouping) ≡ true → n < limit
 grouped_below true grouping len limit n is grouped = let low : n ≤ grouping = grind (arith, nat_tests, grouped) in omega (arith, low, is)
 grouped_below false grouping len limit n is grouped = absurd (cc)
 
--- the same, where the categories of the first character are known as an entry
+-- the spans, if the categories of the first character are known
 pub spans_found_from : (info : ℕ → CharInfo) (category wanted : Category) (none_known : Bool) (grouping limit first : ℕ) (entry : CharInfo) (cs : List ℕ) (seen_run seen n bytes : ℕ) (spans result : Spans)
     → entry ≡ info first → wanted ≡ category → n ≡ category.length → (category.invoke || none_known) ≡ true
-    → limit ≡ looked_ahead category grouping
+    → limit ≡ lookahead category grouping
     → seen_run ≡ min limit (run info entry cs) → seen ≡ length (take_while (λ c. shares entry (info c)) (take n cs))
     → spans.grouped ≡ cond (category.group && nat_le seen_run grouping) (Some (record { characters = 1 + seen_run; bytes = bytes })) None
     → spans.longest ≡ longest category.group category.length (1 + seen) seen_run
     → spans_in result ≡ one_if_none none_known (spans_in spans)
-    → spans_in result ≡ spans_of wanted none_known grouping (1 + run info (info first) cs) (alike info first cs)
+    → spans_in result ≡ spans_of wanted none_known grouping (1 + run info (info first) cs) (sharing_with_first info first cs)
 spans_found_from info category wanted none_known grouping limit first entry cs seen_run seen n bytes spans result e w is_n made limit_is is_run is_seen grouped long found =
     let far : category.group ≡ true → grouping + 1 ≤ limit = λ group. subst (λ (n : ℕ). grouping + 1 ≤ n) (sym limit_is) (ahead_of_grouping category.group grouping category.length group) in
     let far_enough : category.group ≡ true → category.length ≤ limit = λ group. subst (λ (n : ℕ). category.length ≤ n) (sym limit_is) (ahead_of_lengths category.group grouping category.length group) in
     let runs : seen_run ≡ min limit (run info (info first) cs) = is_run ∙ ap (λ (i : CharInfo). min limit (run info i cs)) e in
     let sees : seen ≡ length (take_while (λ c. shares (info first) (info c)) (take category.length cs)) =
-    is_seen ∙ ap (λ (i : CharInfo). length (take_while (λ c. shares i (info c)) (take n cs))) e ∙ ap (λ (k : ℕ). length (take_while (λ c. shares (info first) (info c)) (take k cs))) is_n in
-    spans_found info category none_known grouping limit first cs seen_run seen bytes spans result made far far_enough runs sees grouped long found
-    ∙ ap (λ (k : Category). spans_of k none_known grouping (1 + run info (info first) cs) (alike info first cs)) (sym w)
+    is_seen ∙ ap (λ (i : CharInfo). length (take_while (λ c. shares i (info c)) (take n cs))) e ∙ ap (λ (k : ℕ). length (take_while (λ c. shares (info first) (info c)) (take k cs))) is_n in spans_found
+    info category none_known grouping limit first cs seen_run seen bytes spans result made far far_enough runs sees grouped long found
+    ∙ ap (λ (k : Category). spans_of k none_known grouping (1 + run info (info first) cs) (sharing_with_first info first cs)) (sym w)
 
 pub no_spans_from : (category wanted : Category) (none_known : Bool) (grouping whole same : ℕ) → wanted ≡ category → (category.invoke || none_known) ≡ false → [] ≡ spans_of wanted none_known grouping whole same
 no_spans_from category wanted none_known grouping whole same w made =

@@ -10,13 +10,13 @@ use Rattle.std.proofs.lemmas.Option.{get_or_from_slice_get, same_Some}
 use Rattle.mj_model.specs.declared.word.Word.{Word}
 use Rattle.mj_model.specs.Tables.{Overlay, Token}
 use Rattle.mj_model.proofs.Basics.{all_append}
-use Rattle.paths.specs.Words.{is_empty, unknown}
-use Rattle.paths.specs.declared.entry_list.EntryList.{EntryList}
-use Rattle.paths.specs.declared.surface.Surface.{Surface}
+use Rattle.mj_model.specs.Words.{is_empty, unknown}
+use Rattle.mj_model.specs.declared.paths.entry_list.EntryList.{EntryList}
+use Rattle.mj_model.specs.declared.paths.surface.Surface.{Surface}
 use Rattle.word_lookup.specs.declared.word_start.WordStart.{WordStart}
-use Rattle.dict_image.specs.declared.token_row.TokenRow.{TokenRow}
+use Rattle.dict_image.specs.declared.entry_range.EntryRange.{EntryRange}
 use Rattle.word_lookup.specs.EntryWords.{entry_word}
-use Rattle.paths.specs.Surfaces.{AreSurfacesOf, IsWhole, IsWordOf, StandsWith}
+use Rattle.mj_model.specs.Surfaces.{AreSurfacesOf, IsWhole, IsWordOf, HasSameSpan}
 use Rattle.word_lookup.specs.Surfaces.{GrowsByWords, surface_words, tokens_of}
 use Rattle.word_lookup.specs.SurfacesHere.{surface_here}
 use Rattle.word_lookup.proofs.AppendLemmas.{front_kept}
@@ -56,7 +56,7 @@ pub all_grown : (o : Overlay) (before now : List Surface) (all left : List Word)
 all_grown o before now all left have e =
     subst (λ (ws : List Word). GrowsByWords o ws before now) (sym (append-nil have.done) ∙ ap (λ (ws : List Word). have.done ++ ws) (sym e) ∙ have.whole) have.grown
 
--- what stood there before stays where it was
+-- earlier elements stay in place
 pub grown_kept : (o : Overlay) (n m : ℕ) (before now after : List Surface) (words : List Word) → GrowsByWords o words before now → n ≡ length before → take m after ≡ now → take n after ≡ before
 grown_kept o n m before now after words more is kept = front_kept n m before more.0 after is (kept ∙ more.2)
 
@@ -88,7 +88,7 @@ dropped_at (u ∷ ts) (suc n) i (suc k) t is at = dropped_at ts n i k t (omega (
 token_at : (ts : List Token) (first count i : ℕ) (t : Token) → slice_get (take count (drop first ts)) i ≡ Some t → slice_get ts (first + i) ≡ Some t
 token_at ts first count i t at = dropped_at ts first i (first + i) t refl (taken_at (drop first ts) count i t at)
 
-all_stand : (s : Surface) (es : List Token) → AllByRecursion (StandsWith s) (map (entry_word s.list s.place s.start s.end) es)
+all_stand : (s : Surface) (es : List Token) → AllByRecursion (HasSameSpan s) (map (entry_word s.list s.place s.start s.end) es)
 all_stand s [] = tt
 all_stand s (e ∷ es) = (record { place = refl; start = refl; end = refl }, all_stand s es)
 
@@ -103,7 +103,7 @@ one_surface o s es before words numbers stand some are =
     let c = length-map es f in
     let d = ap length same in
     let whole : IsWhole (surface_words o) s =
-    record { count_is = omega (arith, long, a, b, c, d); some = omega (arith, long, a, b, some); stand = subst (AllByRecursion (StandsWith s)) (sym same) (all_stand s es) } in
+    record { count_is = omega (arith, long, a, b, c, d); some = omega (arith, long, a, b, some); stand = subst (AllByRecursion (HasSameSpan s)) (sym same) (all_stand s es) } in
     (s ∷ [], record { joined = append-nil (surface_words o s) ∙ same ∙ are; whole = (whole, tt) }, refl)
 
 -- the word of one entry of a surface is a surface of its own
@@ -128,13 +128,13 @@ one_word o s one i is whole less =
           ap (map f) (single ∙ ap (λ (u : Token). u ∷ []) (get_or_from_slice_get ts (s.first + i) m.0 t there)) ∙ ap (λ (v : Word). v ∷ []) m.2;
     })
 
--- that of a row which was appended
-pub surface_appended : (o : Overlay) (at : WordStart) (list : EntryList) (row : TokenRow) (end : ℕ) (s : Surface) (es : List Token) (before after : List Surface) (words : List Word) → s ≡ surface_here at list row end → after ≡ before ++ s ∷ []
+-- the surface of a row that was appended
+pub surface_appended : (o : Overlay) (at : WordStart) (list : EntryList) (row : EntryRange) (end : ℕ) (s : Surface) (es : List Token) (before after : List Surface) (words : List Word) → s ≡ surface_here at list row end → after ≡ before ++ s ∷ []
     → map (λ (t : Token). t.number) es ≡ range_with_len row.first row.count → AllByRecursion (StandsAtNumber (tokens_of o list)) es → 0 < length es → map (entry_word list at.place at.start end) es ≡ words → GrowsByWords o words before after
 surface_appended o at list row end s es before after words is now numbers stand some are =
     subst (GrowsByWords o words before) (sym (now ∙ ap (λ (t : Surface). before ++ t ∷ []) is)) (one_surface o (surface_here at list row end) es before words numbers stand some are)
 
--- ---- what was there before
+-- ---- earlier elements
 
 pub have_front : (o : Overlay) (n : ℕ) (before now after : List Surface) (all left : List Word) → HaveGrown o before now all left → n ≡ length before → after ≡ now → take n after ≡ before
 have_front o n before now after all left have is same = ap (take n) (same ∙ have.grown.2) ∙ take_at before have.grown.0 n (sym is)
@@ -168,7 +168,7 @@ is_none_by o ks old mid (s ∷ ss) are at =
 pub is_none : (o : Overlay) (ks : List Word) (old mid : List Surface) → GrowsByWords o ks old mid → (length mid == length old) ≡ is_empty ks
 is_none o ks old mid grown = is_none_by o ks old mid grown.0 grown.1 grown.2
 
--- those that were appended to none
+-- surfaces that were appended to an empty list
 pub from_none : (o : Overlay) (words : List Word) (old new : List Surface) → old ≡ [] → GrowsByWords o words old new → AreSurfacesOf (surface_words o) words new
 from_none o words old new e grown = subst (AreSurfacesOf (surface_words o) words) (sym (grown.2 ∙ ap (λ (xs : List Surface). xs ++ grown.0) e)) grown.1
 

@@ -8,13 +8,13 @@ use Rattle.std.proofs.lemmas.Option.{same_Some, slice_get-get_or, slice_get-map}
 use Rattle.mj_model.specs.declared.category.CharInfo.{CharInfo}
 use Rattle.mj_model.specs.declared.matrix_sizes.MatrixSizes.{MatrixSizes}
 use Rattle.mj_model.specs.Tables.{Lexeme, Overlay, Tables, lexicons, lexicons_of}
-use Rattle.image_bytes.specs.ImageMeaning.{image_tables}
-use Rattle.paths.specs.KnownWords.{known_from, known_in}
+use Rattle.image_format.specs.ImageMeaning.{image_tables}
+use Rattle.mj_model.specs.KnownWords.{known_from, known_in}
 use Rattle.dict_image.specs.Fitting.{AreFitting}
 use Rattle.dict_image.specs.Numbered.{numbered_tokens}
 use Rattle.word_lookup.specs.declared.dictionaries.Dictionaries.{Dictionaries}
-use Rattle.paths.specs.declared.entry_list.EntryList.{EntryList}
-use Rattle.paths.specs.declared.entry_list.EntryList.TheVariants.{Categories, Lexicon}
+use Rattle.mj_model.specs.declared.paths.entry_list.EntryList.{EntryList}
+use Rattle.mj_model.specs.declared.paths.entry_list.EntryList.TheVariants.{Categories, Lexicon}
 use Rattle.word_lookup.specs.Fitting.{IsUserOf}
 use Rattle.word_lookup.specs.Overlays.{overlay_of}
 use Rattle.word_lookup.specs.Surfaces.{all_tables, tokens_of}

@@ -7,14 +7,14 @@ use Rattle.std.proofs.lemmas.List.Concat.{flat_map-append}
 use Rattle.mj_model.specs.declared.word.Origin.TheVariants.{Unknown}
 use Rattle.mj_model.specs.declared.word.Word.{Word}
 use Rattle.mj_model.specs.Lists.{up_to}
-use Rattle.paths.specs.KnownWords.{word_of}
-use Rattle.paths.specs.Run.{bytes_of}
+use Rattle.mj_model.specs.KnownWords.{word_of}
+use Rattle.mj_model.specs.Run.{bytes_of}
 use Rattle.mj_model.specs.Tables.{Overlay, Token}
-use Rattle.paths.specs.Words.{unknown_word}
-use Rattle.paths.specs.declared.entry_list.EntryList.TheVariants.{Categories}
+use Rattle.mj_model.specs.Words.{unknown_word}
+use Rattle.mj_model.specs.declared.paths.entry_list.EntryList.TheVariants.{Categories}
 use Rattle.word_lookup.specs.declared.run.Run.{Run}
 use Rattle.word_lookup.specs.declared.spans.Spans.{Spans}
-use Rattle.paths.specs.declared.surface.Surface.{Surface}
+use Rattle.mj_model.specs.declared.paths.surface.Surface.{Surface}
 use Rattle.word_lookup.specs.EntryWords.{entry_word}
 use Rattle.word_lookup.specs.Spans.{grouped_spans, spans_in}
 use Rattle.word_lookup.specs.Surfaces.{GrowsByWords}
@@ -43,7 +43,7 @@ one_span_more place start cs entries n end at =
     ∙ sym (flat_map-append f (up_to n) (suc n ∷ []))
     ∙ ap (λ (m : ℕ). flat_map f (up_to m)) (sym (add-one n))
 
--- where the word of one character more ends
+-- the end of the word of one character more
 pub one_character_more : (cs : List ℕ) (start longest k c end : ℕ) → k < length (take longest cs) → k < longest → longest ≤ length cs → c ≡ get_or (take longest cs) k c
     → end ≡ start + bytes_of k cs → end + len_utf8 c ≡ start + bytes_of (k + 1) cs
 one_character_more cs start longest k c end less below low at so_far =

@@ -6,7 +6,7 @@ use Rattle.std.proofs.lemmas.List.{append-nil, append_assoc, take_more}
 use Rattle.std.proofs.lemmas.List.Concat.{flat_map-append}
 use Rattle.std.proofs.lemmas.Option.{get_or_from_slice_get, slice_get_within}
 use Rattle.mj_model.specs.declared.word.Word.{Word}
-use Rattle.paths.specs.declared.surface.Surface.{Surface}
+use Rattle.mj_model.specs.declared.paths.surface.Surface.{Surface}
 
 pub one_word_more : (before now after ws : List Word) (w : Word) (i : ℕ) → now ≡ before ++ take i ws → slice_get ws i ≡ Some w → after ≡ now ++ w ∷ [] → after ≡ before ++ take (i + 1) ws
 one_word_more before now after ws w i so_far at more =

@@ -1,26 +1,26 @@
--- Dictionaries that make an overlay, and what a search asks of them.
+-- Dictionaries that form an overlay, and what the search requires of them.
 use Rattle.std.specs.Prelude.{◌≡◌, true, false, List}
 use Rattle.std.specs.List.{AllByRecursion}
 use Rattle.mj_model.specs.declared.category.CharInfo.{CharInfo}
 use Rattle.mj_model.specs.declared.matrix_sizes.MatrixSizes.{MatrixSizes}
 use Rattle.mj_model.specs.Overlays.{is_user, are_same_sizes}
 use Rattle.mj_model.specs.Tables.{Tables}
-use Rattle.paths.specs.Blanks.{space}
+use Rattle.mj_model.specs.Blanks.{space}
 use Rattle.dict_image.specs.Fitting.{AreFitting}
 
--- a user dictionary, made for these sizes
+-- a user dictionary for a connection matrix of these sizes
 pub record IsUserOf (sizes : MatrixSizes) (t : Tables) : Type 0 where
   pub is_users : is_user t.kind ≡ true
   pub same_sizes : are_same_sizes t.sizes sizes ≡ true
   pub fits : AreFitting t
 
--- a system dictionary, with user dictionaries that were made for its sizes
+-- a system dictionary, with user dictionaries for its sizes
 pub record AreLaidOver (system : Tables) (users : List Tables) : Type 0 where
   pub is_system : is_user system.kind ≡ false
   pub fits : AreFitting system
   pub users_fit : AllByRecursion (IsUserOf system.sizes) users
 
--- the same, as a word that is not taken apart
+-- `AreLaidOver` as a name that is not unfolded
 unfoldable pub IsOverlay : Tables → List Tables → Type 0
 IsOverlay system users = AreLaidOver system users
 

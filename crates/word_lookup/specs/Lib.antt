@@ -6,8 +6,9 @@ pub mod SurfacesHere
 pub mod UnknownEntries
 pub mod WordsHere
 pub mod Overlays
-pub mod BlankRuns
-pub mod CharacterRuns
+pub mod BlankScans
+pub mod CategoryScans
+pub mod ScanCaches
 pub mod FirstCharacters
 pub mod TextRuns
 pub mod Props

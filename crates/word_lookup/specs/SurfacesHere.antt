@@ -1,10 +1,10 @@
--- Surfaces that begin where the words of a place do.
+-- Surfaces at the start of the words of a position.
 use Rattle.std.specs.Prelude.{ℕ}
-use Rattle.dict_image.specs.declared.token_row.TokenRow.{TokenRow}
-use Rattle.paths.specs.declared.entry_list.EntryList.{EntryList}
-use Rattle.paths.specs.declared.surface.Surface.{Surface}
+use Rattle.dict_image.specs.declared.entry_range.EntryRange.{EntryRange}
+use Rattle.mj_model.specs.declared.paths.entry_list.EntryList.{EntryList}
+use Rattle.mj_model.specs.declared.paths.surface.Surface.{Surface}
 use Rattle.word_lookup.specs.declared.word_start.WordStart.{WordStart}
 
--- that of a row of entries
-abbrev pub surface_here : WordStart → EntryList → TokenRow → ℕ → Surface
+-- the surface from there to `end` with a row of entries
+abbrev pub surface_here : WordStart → EntryList → EntryRange → ℕ → Surface
 surface_here at list row end = record { list = list; first = row.first; count = row.count; place = at.place; start = at.start; end = end }

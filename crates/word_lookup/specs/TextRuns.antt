@@ -1,34 +1,35 @@
--- Runs of a text to which a system dictionary gives categories.
+-- Runs of a text whose characters have categories in a system dictionary.
 use Rattle.std.specs.Prelude.{◌≡◌, ℕ, ◌-◌, false}
-use Rattle.image_bytes.specs.ImageMeaning.{image_tables}
+use Rattle.image_format.specs.ImageMeaning.{image_tables}
 use Rattle.mj_model.specs.declared.category.CharInfo.{CharInfo}
-use Rattle.paths.specs.declared.character_run.CharacterRun.{CharacterRun}
-use Rattle.paths.specs.declared.last_runs.LastRuns.{LastRuns}
+use Rattle.word_lookup.specs.declared.category_scan.CategoryScan.{CategoryScan}
+use Rattle.word_lookup.specs.declared.scan_cache.ScanCache.{ScanCache}
 use Rattle.word_lookup.specs.declared.run.Run.{Run}
-use Rattle.word_lookup.specs.declared.runs_in_turn.CategorizedText.{CategorizedText}
-use Rattle.word_lookup.specs.CharacterRuns.{AreCharacterRuns, IsCharacterRun, TellsUpTo}
+use Rattle.word_lookup.specs.declared.cached_runs.CategorizedText.{CategorizedText}
+use Rattle.word_lookup.specs.CategoryScans.{AreCategoryScans, IsCategoryScan, CoversUpTo}
 
--- a run of its characters
-abbrev pub IsRunOf : CategorizedText → CharacterRun → Type 0
-IsRunOf t r = IsCharacterRun (image_tables t.system.now).info t.text.now r
+-- a scanned run of this text
+abbrev pub IsRunOf : CategorizedText → CategoryScan → Type 0
+IsRunOf t r = IsCategoryScan (image_tables t.system.now).info t.text.now r
 
--- the runs of characters that are kept are runs of it
-abbrev pub AreRunsOf : CategorizedText → LastRuns → Type 0
-AreRunsOf t last = AreCharacterRuns (image_tables t.system.now).info t.text.now last
+-- the cached runs of characters are runs of this text
+abbrev pub AreScansOf : CategorizedText → ScanCache → Type 0
+AreScansOf t last = AreCategoryScans (image_tables t.system.now).info t.text.now last
 
--- a run of which only its first character was looked at, which has these categories
-abbrev pub run_begun : ℕ → ℕ → CharInfo → CharacterRun
-run_begun from to first = record { from = from; to = to; following = 0; last = first; is_whole = false }
+-- a run of which only the first character was scanned
+abbrev pub started_scan : ℕ → ℕ → CharInfo → CategoryScan
+started_scan from to first = record { from = from; to = to; following = 0; last = first; is_whole = false }
 
--- a run of a place whose first character ends at `to`, and behind it so many characters and bytes
-pub record LooksAt (from to : ℕ) (behind : Run) (r : CharacterRun) : Type 0 where
+-- the scanned run has these characters and bytes after its first character, which ends at `to`
+pub record IsScannedRun (from to : ℕ) (suffix : Run) (r : CategoryScan) : Type 0 where
   pub begins : r.from ≡ from
-  pub characters : behind.characters ≡ r.following
-  pub bytes : behind.bytes ≡ r.to - to
+  pub characters : suffix.characters ≡ r.following
+  pub bytes : suffix.bytes ≡ r.to - to
 
--- so many characters and bytes stand behind the first character in a run of a place that tells whether so many characters follow
-pub record TellsRun (t : CategorizedText) (from to limit : ℕ) (behind : Run) : Type 0 where
-  pub run : CharacterRun
+-- a run that was scanned far enough for `limit` has these characters and bytes after its first
+-- character
+pub record CoversRun (t : CategorizedText) (from to limit : ℕ) (suffix : Run) : Type 0 where
+  pub run : CategoryScan
   pub is : IsRunOf t run
-  pub looks : LooksAt from to behind run
-  pub tells : TellsUpTo limit run
+  pub looks : IsScannedRun from to suffix run
+  pub reports : CoversUpTo limit run

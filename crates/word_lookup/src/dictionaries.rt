@@ -2,28 +2,28 @@
 
 ghost use Rattle.std.specs.Prelude.{◌≡◌, ◌<◌, ◌≤◌, [], length, map, IsTrue, IfOk, OnOk, IfErr, Some, None, slice_get, slice_index_or};
 ghost use Rattle.mj_model.specs.Connection.{is_pair};
-ghost use Rattle.image_bytes.specs.ImageMeaning.{image_tables};
+ghost use Rattle.image_format.specs.ImageMeaning.{image_tables};
 ghost use Rattle.mj_model.specs.Printed.{feature_of};
+ghost use Rattle.word_lookup.specs.Fitting.{AreOfSpace, IsOverlay};
 ghost use Rattle.mj_model.specs.Tables.{lexicons};
+ghost use Rattle.word_lookup.specs.Props.{IsOverlay-prop};
 ghost use Rattle.dict_image.specs.CostRows.{AreCostsBefore};
 ghost use Rattle.dict_image.specs.Fitting.{AreFitting};
 ghost use Rattle.std.proofs.Props.{props};
-ghost use Rattle.word_lookup.specs.Fitting.{AreOfSpace, IsOverlay};
-ghost use Rattle.word_lookup.specs.Props.{IsOverlay-prop};
 
 use crate::overlay::check_users;
 use dict_image::{CostsBefore, Dict, EntryRef};
 use mj_model::{CharInfo, GROUPING_DEFAULT, Origin, OverlayFault, Word};
 use std::alloc::{AllocError, Global};
 
-/// A system dictionary with users' dictionaries laid over it, and how many characters may follow the first one of a grouped
-/// unknown word.
+/// A system dictionary, the user dictionaries laid over it, and the maximum number of characters
+/// that follow the first one of a grouped unknown word.
 #[derive(Clone, Copy, Drop)]
 pub struct Dictionaries<'a> {
     pub(crate) system: &'a Dict,
     pub(crate) users: &'a [Dict],
     pub(crate) grouping: u16,
-    /// The categories of U+0020, with which blanks begin.
+    /// The categories of U+0020. Characters that share one of them start blanks.
     pub(crate) space: CharInfo,
     ghost fitting: { IsOverlay (image_tables system.now) (map image_tables users.now) } by { IsOverlay-prop (image_tables system.now) (map image_tables users.now) },
     ghost space_is: { AreOfSpace (image_tables system.now) space } by { Prim.hlevel props },
@@ -34,7 +34,10 @@ impl<'a> Dictionaries<'a> {
     ghost use Rattle.word_lookup.specs.Overlays.{fault_of_images, lexicon_in, overlay_by_default, overlay_of};
     ghost use Rattle.word_lookup.specs.Surfaces.{all_tables};
 
-    /// The system dictionary and the users' laid over it, with a grouping of 24 characters. Takes no memory.
+    /// Lays user dictionaries over a system dictionary, with a grouping of 24 characters. Does not
+    /// allocate.
+    ///
+    /// Returns `NotSystem`, `NotUser` or `OtherSizes` if the dictionaries don't fit together.
     #[tactic(auto, unfolding(crate::specs::Overlays::overlay_of))]
     pub fn new(system: &'a Dict, users: &'a [Dict]) -> Result<Dictionaries<'a>, OverlayFault>
         ensures overlay { IfOk result (λ d. overlay_of d
@@ -42,7 +45,7 @@ impl<'a> Dictionaries<'a> {
         ensures accepted { OnOk result (fault_of_images system.now users.now ≡ None) }
         ensures fitting { OnOk result
             (IsOverlay (image_tables system.now) (map image_tables users.now)) }
-        ensures refused { IfErr result (λ fault. fault_of_images system.now users.now
+        ensures rejected { IfErr result (λ fault. fault_of_images system.now users.now
             ≡ Some fault) }
     {
         if system.is_user() {
@@ -52,7 +55,8 @@ impl<'a> Dictionaries<'a> {
         Ok(Dictionaries::over(system, users))
     }
 
-    /// The same of dictionaries that were found to fit: they are not looked at again.
+    /// Lays user dictionaries over a system dictionary. They were checked before and are not
+    /// checked again.
     #[tactic(auto, unfolding(crate::specs::Overlays::overlay_of))]
     pub fn over(system: &'a Dict, users: &'a [Dict]) -> Dictionaries<'a>
         requires { IsOverlay (image_tables system.now) (map image_tables users.now) }
@@ -66,7 +70,7 @@ impl<'a> Dictionaries<'a> {
         }
     }
 
-    /// With another grouping.
+    /// Returns these dictionaries with another grouping, of at most 1,000 characters.
     #[tactic(auto, unfolding(crate::specs::Overlays::overlay_of))]
     pub fn with_grouping(self, grouping: u16) -> Dictionaries<'a>
         requires { grouping ≤ 1000 }
@@ -80,7 +84,7 @@ impl<'a> Dictionaries<'a> {
         }
     }
 
-    /// The feature of a word's entry; empty where no entry of these dictionaries has its number.
+    /// Returns the feature of a word's entry, or an empty string if no entry has its number.
     #[tactic(auto, unfolding(crate::specs::Overlays::overlay_of))]
     pub fn feature(&self, word: &Word) -> &str
         ensures { result.now ≡ feature_of (overlay_of self.now) word.now.origin }
@@ -88,7 +92,7 @@ impl<'a> Dictionaries<'a> {
         self.entry_of(word.origin).map_or("", |entry| entry.feature)
     }
 
-    /// The entry from which a word comes.
+    /// Returns the entry that a word comes from.
     fn entry_of(&self, origin: Origin) -> Option<EntryRef<'_>>
         ensures { feature_in_entry result ≡ feature_of (overlay_of self.now) origin }
     {
@@ -98,7 +102,7 @@ impl<'a> Dictionaries<'a> {
         }
     }
 
-    /// The dictionary with a number: that of the system is 0.
+    /// Returns dictionary `number`: the system dictionary is 0, and user dictionaries follow.
     #[tactic(auto, unfolding(crate::specs::Overlays::overlay_of))]
     fn dictionary(&self, number: usize) -> Option<&Dict>
         ensures { lexicon_in result ≡ slice_index_or (lexicons (overlay_of self.now)) number [] }
@@ -110,7 +114,7 @@ impl<'a> Dictionaries<'a> {
         }
     }
 
-    /// The same, where it is one of them.
+    /// Returns dictionary `number`, which must exist.
     #[tactic(auto, unfolding(crate::specs::Overlays::overlay_of))]
     #[inline(always)]
     pub(crate) fn numbered(&self, number: usize) -> &'a Dict
@@ -126,7 +130,8 @@ impl<'a> Dictionaries<'a> {
         }
     }
 
-    /// The connection cost of the right id of the word before and the left id of the word behind it.
+    /// Returns the connection cost of a word with right id `prev_right` and a following word with
+    /// left id `next_left`.
     #[tactic(auto, unfolding(crate::specs::Overlays::overlay_of))]
     pub fn cost(&self, prev_right: u16, next_left: u16) -> i16
         requires { IsTrue (is_pair (overlay_of self.now).system.sizes prev_right next_left) }
@@ -135,7 +140,8 @@ impl<'a> Dictionaries<'a> {
         self.system.cost(prev_right, next_left)
     }
 
-    /// The connection costs before words of a left id: where they lie is looked up once for all right ids.
+    /// Returns the connection costs before words with left id `left`. Their location is looked up
+    /// once for all right ids.
     #[tactic(auto, unfolding(crate::specs::Overlays::overlay_of))]
     #[inline(always)]
     pub fn costs_before(&self, left: u16) -> CostsBefore<'a>
@@ -145,7 +151,7 @@ impl<'a> Dictionaries<'a> {
         self.system.costs_before(left)
     }
 
-    /// The categories of a character.
+    /// Returns the categories of a character.
     #[tactic(auto, unfolding(crate::specs::Overlays::overlay_of))]
     pub fn info(&self, c: char) -> CharInfo
         ensures { result ≡ (overlay_of self.now).system.info c }

@@ -7,7 +7,7 @@ ghost use Rattle.word_lookup.specs.Overlays.{overlay_of};
 use crate::dictionaries::Dictionaries;
 use mj_model::CharInfo;
 
-/// The first character of a text, how many bytes it takes, and the categories that a system dictionary gives it.
+/// The first character of a text, its length in bytes, and its categories in a system dictionary.
 #[derive(Clone, Copy, Debug, Drop)]
 pub struct FirstCharacter {
     pub character: char,
@@ -16,9 +16,12 @@ pub struct FirstCharacter {
 }
 
 impl<'a> Dictionaries<'a> {
-    /// The first character of a text; none where it is empty. `range` is a guess at the range of its code point.
+    /// Returns the first character of a text, or `None` if it is empty.
+    ///
+    /// `range` is a hint: the index of the code point range that was found last. Any value is
+    /// valid.
     #[inline(always)]
-    pub(crate) fn first_near(&self, text: &str, range: &mut usize) -> Option<FirstCharacter>
+    pub(crate) fn first_with_hint(&self, text: &str, range: &mut usize) -> Option<FirstCharacter>
         ensures { result ≡ first_in (overlay_of self.now).system.info (chars text.now) }
     {
         let mut left = text.chars();
@@ -26,7 +29,7 @@ impl<'a> Dictionaries<'a> {
             Some(character) => Some(FirstCharacter {
                 character,
                 bytes: text.len() - left.as_str().len(),
-                info: self.system.info_near(character, range),
+                info: self.system.info_with_hint(character, range),
             }),
             None => None,
         }

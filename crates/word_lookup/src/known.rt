@@ -7,12 +7,12 @@ ghost use Rattle.word_lookup.specs.WordsHere.{all_known_here, known_here, lexico
 
 use crate::dictionaries::Dictionaries;
 use crate::word_start::WordStart;
-use paths::{EntryList, Surface};
+use mj_model::paths::{EntryList, Surface};
 use std::alloc::AllocError;
 
 impl<'a> Dictionaries<'a> {
-    /// Appends the surfaces of the known words that begin here: those of the system, then those of each user. On `Err` some may stand
-    /// behind what was there before.
+    /// Appends the surfaces of the known words that start at `at`: those of the system dictionary,
+    /// then those of each user dictionary. On an error, some of them may have been appended.
     #[inline(always)]
     pub(crate) fn append_known(
         &self,
@@ -21,7 +21,7 @@ impl<'a> Dictionaries<'a> {
     ) -> Result<(), AllocError>
         ensures appended { OnOk result (GrowsByWords (overlay_of self.now)
             (all_known_here at.entry (overlay_of self.now)) out.old.items out.new.items) }
-        ensures kept { take (vec_len out.old) out.new.items ≡ out.old.items }
+        ensures unchanged { take (vec_len out.old) out.new.items ≡ out.old.items }
     {
         for number in 0..self.users.len() + 1 {
             self.append_known_of(number, at, out)?;
@@ -29,7 +29,8 @@ impl<'a> Dictionaries<'a> {
         Ok(())
     }
 
-    /// Appends those of the dictionary with a number; shorter ones first.
+    /// Appends the surfaces of the known words of dictionary `number`, shorter ones first. On an
+    /// error, some of them may have been appended.
     #[inline(always)]
     fn append_known_of(
         &self,
@@ -41,7 +42,7 @@ impl<'a> Dictionaries<'a> {
         ensures appended { OnOk result (GrowsByWords (overlay_of self.now)
             (known_here at.entry number (lexicon_of (overlay_of self.now) number))
             out.old.items out.new.items) }
-        ensures kept { take (vec_len out.old) out.new.items ≡ out.old.items }
+        ensures unchanged { take (vec_len out.old) out.new.items ≡ out.old.items }
     {
         let list = EntryList::Lexicon(number);
         let dict = self.numbered(number);

@@ -1,8 +1,8 @@
-//! Whether dictionaries may be laid over one another.
+//! Whether user dictionaries fit a system dictionary.
 
 ghost use Rattle.std.specs.Prelude.{◌≡◌, List, ◌∷◌, map, Some, OnOk, IfErr};
 ghost use Rattle.std.specs.List.{AllByRecursion};
-ghost use Rattle.image_bytes.specs.ImageMeaning.{image_tables};
+ghost use Rattle.image_format.specs.ImageMeaning.{image_tables};
 ghost use Rattle.mj_model.specs.Overlays.{first_user_fault};
 ghost use Rattle.mj_model.specs.Tables.{Tables};
 ghost use Rattle.word_lookup.specs.Fitting.{IsUserOf};
@@ -10,10 +10,12 @@ ghost use Rattle.word_lookup.specs.Fitting.{IsUserOf};
 use dict_image::Dict;
 use mj_model::{MatrixSizes, OverlayFault};
 
-/// Whether user dictionaries were made for a system with these sizes of its connection table.
+/// Checks that all of `users` are user dictionaries for a connection matrix of these sizes.
+///
+/// Returns `NotUser` or `OtherSizes` with the index of the first one that isn't.
 pub fn check_users(users: &[Dict], sizes: MatrixSizes) -> Result<(), OverlayFault>
     ensures accepted { OnOk result (AllByRecursion (IsUserOf sizes) (map image_tables users.now)) }
-    ensures refused { IfErr result (λ fault.
+    ensures rejected { IfErr result (λ fault.
         first_user_fault sizes 0 (map image_tables users.now) ≡ Some fault) }
 {
     for (i, user) in users.iter().enumerate() {
@@ -22,10 +24,10 @@ pub fn check_users(users: &[Dict], sizes: MatrixSizes) -> Result<(), OverlayFaul
     Ok(())
 }
 
-/// Whether dictionary `i` of the users was made for a system with these sizes.
+/// Checks that user dictionary `i` fits a connection matrix of these sizes.
 fn check_user(user: &Dict, i: usize, sizes: MatrixSizes) -> Result<(), OverlayFault>
     ensures accepted { OnOk result (IsUserOf sizes (image_tables user.now)) }
-    ensures refused { IfErr result (λ fault. (others : List Tables)
+    ensures rejected { IfErr result (λ fault. (others : List Tables)
         → first_user_fault sizes i (image_tables user.now ∷ others) ≡ Some fault) }
 {
     if !user.is_user() {

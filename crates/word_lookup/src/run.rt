@@ -1,31 +1,33 @@
-//! Runs of characters of one kind.
+//! Runs of characters, each of which shares a category with the one before it.
 
 ghost use Rattle.std.specs.Prelude.{◌≡◌, ◌+◌, min, chars, take, drop};
-ghost use Rattle.paths.specs.Run.{run, bytes_of, alike_with};
-ghost use Rattle.image_bytes.specs.ImageMeaning.{image_tables};
+ghost use Rattle.mj_model.specs.Run.{run, bytes_of, sharing_with};
+ghost use Rattle.image_format.specs.ImageMeaning.{image_tables};
 ghost use Rattle.mj_model.specs.Tables.{System};
 
 use dict_image::Dict;
 use mj_model::CharInfo;
 
-/// The first characters of a text, and the bytes that they take.
+/// The number of characters at the start of a text, and their length in bytes.
 #[derive(Clone, Copy, Debug, Drop)]
 pub struct Run {
     pub characters: usize,
     pub bytes: usize,
 }
 
-/// What was looked at of a run at the beginning of a text: so many characters, the bytes that they take, and the categories with which it
-/// goes on behind them.
+/// The part of a run at the start of a text that was scanned: its number of characters, its length
+/// in bytes, and the categories of its last character, with which the run goes on.
 #[derive(Clone, Copy, Debug, Drop)]
-pub struct SeenRun {
+pub struct ScannedRun {
     pub characters: usize,
     pub bytes: usize,
     pub last: CharInfo,
 }
 
-/// The run at the beginning of a text, from the categories `entry`; no more than `limit` characters
-/// are looked at. `range` is a guess at the range of their code points.
+/// Scans the run at the start of `text` that follows a character with the categories `entry`, up to
+/// `limit` characters.
+///
+/// `range` is a hint: the index of the code point range that was found last. Any value is valid.
 #[inline(always)]
 pub fn run_up_to(
     system: &Dict,
@@ -33,7 +35,7 @@ pub fn run_up_to(
     text: &str,
     limit: usize,
     range: &mut usize,
-) -> SeenRun
+) -> ScannedRun
     requires { (image_tables system.now).kind ≡ System }
     ensures characters { result.characters
         ≡ min limit (run (image_tables system.now).info entry (chars text.now)) }
@@ -47,15 +49,15 @@ pub fn run_up_to(
     for characters in 0..limit {
         let bytes = text.len() - left.as_str().len();
         let Some(c) = left.next() else {
-            return SeenRun {
+            return ScannedRun {
                 characters,
                 bytes,
                 last,
             };
         };
-        let next = system.info_near(c, range);
+        let next = system.info_with_hint(c, range);
         if !last.shares(next) {
-            return SeenRun {
+            return ScannedRun {
                 characters,
                 bytes,
                 last,
@@ -63,19 +65,18 @@ pub fn run_up_to(
         }
         last = next;
     }
-    SeenRun {
+    ScannedRun {
         characters: limit,
         bytes: text.len() - left.as_str().len(),
         last,
     }
 }
 
-/// How many characters at the beginning of a text share with the categories `first`; no more than
-/// `limit` characters are looked at.
+/// Returns how many characters at the start of `text` share a category with `first`, up to `limit`.
 #[inline(always)]
-pub fn alike_up_to(system: &Dict, first: CharInfo, text: &str, limit: usize) -> usize
+pub fn sharing_up_to(system: &Dict, first: CharInfo, text: &str, limit: usize) -> usize
     requires { (image_tables system.now).kind ≡ System }
-    ensures { result ≡ alike_with first (image_tables system.now).info
+    ensures { result ≡ sharing_with first (image_tables system.now).info
         (take limit (chars text.now)) }
 {
     text.chars()

@@ -1,13 +1,14 @@
 //! Surfaces whose words come from the same entries.
 
 ghost use Rattle.std.specs.Prelude.{◌≡◌, IsTrue};
-ghost use Rattle.paths.specs.declared.entry_list.EntryList.TheVariants.{Categories};
+ghost use Rattle.mj_model.specs.declared.paths.entry_list.EntryList.TheVariants.{Categories};
 ghost use Rattle.word_lookup.specs.SameEntries.{HaveSameEntries};
 
-use paths::{EntryList, Surface};
+use mj_model::paths::{EntryList, Surface};
 
-/// Whether the words of two surfaces come from the same unknown entries. Those of one place are of several lengths.
-pub fn have_same_entries(one: &Surface, other: &Surface) -> bool
+/// Returns whether the words of two surfaces come from the same unknown entries. Unknown words of
+/// one position and category have several lengths, but the same entries.
+pub fn have_same_unknown_entries(one: &Surface, other: &Surface) -> bool
     ensures { IsTrue result → HaveSameEntries one.now other.now }
 {
     is_unknown(one.list)
@@ -16,7 +17,7 @@ pub fn have_same_entries(one: &Surface, other: &Surface) -> bool
         && one.count == other.count
 }
 
-/// Whether entries are unknown ones.
+/// Returns whether a list has the unknown entries.
 fn is_unknown(list: EntryList) -> bool
     ensures { IsTrue result → list ≡ Categories }
 {

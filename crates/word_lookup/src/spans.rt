@@ -1,21 +1,21 @@
-//! How many characters the unknown words of a place have. (MeCab, unk)
+//! The numbers of characters of the unknown words of a position. (MeCab, `unk.def` and `char.def`)
 
 ghost use Rattle.std.specs.Prelude.{◌≡◌, ◌+◌, ◌<◌, ◌≤◌, ◌||◌, ◌^◌, length, chars, drop, take, IfSome, max};
 ghost use Rattle.std.specs.Char.{len_utf8};
-ghost use Rattle.paths.specs.Run.{run, alike_with};
-ghost use Rattle.paths.specs.UnknownSpans.{spans_by, one_if_none};
-ghost use Rattle.image_bytes.specs.ImageMeaning.{image_tables};
-ghost use Rattle.word_lookup.specs.CharacterRuns.{AreCharacterRuns};
-ghost use Rattle.word_lookup.specs.Spans.{spans_in, grouped_with, longest_of, looked_ahead, surely_alike, HasBytes};
+ghost use Rattle.mj_model.specs.Run.{run, sharing_with};
+ghost use Rattle.mj_model.specs.UnknownSpans.{spans_by, one_if_none};
+ghost use Rattle.image_format.specs.ImageMeaning.{image_tables};
+ghost use Rattle.word_lookup.specs.CategoryScans.{AreCategoryScans};
+ghost use Rattle.word_lookup.specs.Spans.{spans_in, grouped_with, longest_of, lookahead, certainly_sharing, HasBytes};
 
-use crate::run::{Run, alike_up_to};
+use crate::run::{Run, sharing_up_to};
+use crate::scan_cache::ScanCache;
 use crate::unknown_start::UnknownStart;
-use crate::word_start::behind;
+use crate::word_start::suffix;
 use mj_model::Category;
-use paths::LastRuns;
 
-/// The unknown spans of a place: that of the whole run, where it is grouped, and those of 1 to
-/// `longest` characters.
+/// The unknown spans of a position: the whole run, if it is grouped, and those of 1 to `longest`
+/// characters.
 #[derive(Clone, Copy, Debug, Drop)]
 pub struct Spans {
     pub grouped: Option<Run>,
@@ -23,17 +23,21 @@ pub struct Spans {
 }
 
 impl UnknownStart<'_> {
-    /// The unknown spans of the place. `last` are the runs that were looked at last.
+    /// Returns the unknown spans of this position.
+    ///
+    /// `grouping` is the maximum number of characters that follow the first one of a grouped span.
+    /// `none_known` is set if the position has no known word. `last` caches the runs that were
+    /// scanned before.
     #[inline(always)]
-    pub fn spans(self, grouping: u16, none_known: bool, last: &mut LastRuns) -> Spans
-        requires { AreCharacterRuns (image_tables self.system.now).info
+    pub fn spans(self, grouping: u16, none_known: bool, last: &mut ScanCache) -> Spans
+        requires { AreCategoryScans (image_tables self.system.now).info
             self.at.text.now last.old }
         ensures spans { spans_in result
             ≡ spans_by (image_tables self.entry.system.now) grouping none_known
             self.entry.first (chars (drop (len_utf8 self.entry.first) self.entry.at.rest.now)) }
         ensures bytes { IfSome result.grouped (HasBytes (chars self.entry.at.rest.now)) }
         ensures within { result.longest ≤ length (chars self.entry.at.rest.now) }
-        ensures last { AreCharacterRuns (image_tables self.entry.system.now).info
+        ensures last { AreCategoryScans (image_tables self.entry.system.now).info
             self.entry.at.text.now last.new }
         ensures blanks { last.new.blanks ≡ last.old.blanks }
     {
@@ -44,8 +48,8 @@ impl UnknownStart<'_> {
                 longest: 0,
             };
         }
-        let ahead = look_ahead(category, grouping);
-        let run = self.run_behind(ahead, last);
+        let ahead = lookahead(category, grouping);
+        let run = self.run_after(ahead, last);
         let spans = Spans {
             grouped: grouped_run(category, grouping, self.bytes, run),
             longest: self.longest_length(category, run.characters),
@@ -53,26 +57,27 @@ impl UnknownStart<'_> {
         at_least_one(none_known, spans)
     }
 
-    /// The longest of the lengths from 1 on, where so many characters follow in the run.
+    /// Returns the longest of the spans that are not grouped, if `following` characters follow in
+    /// the run.
     #[inline(always)]
     fn longest_length(self, category: Category, following: usize) -> usize
         requires { following ≤ run (image_tables self.system.now).info self.info
             (chars (drop (len_utf8 self.first) self.at.rest.now)) }
         ensures { result ≡ longest_of category following
-            (1 + alike_with self.entry.info (image_tables self.entry.system.now).info
+            (1 + sharing_with self.entry.info (image_tables self.entry.system.now).info
             (take category.length
             (chars (drop (len_utf8 self.entry.first) self.entry.at.rest.now)))) }
     {
         let most = longest_in_run(category, following);
-        if most <= surely_alike(category) {
+        if most <= certainly_sharing(category) {
             return most;
         }
-        let behind_first = behind(self.at.rest, self.bytes);
-        most.min(1 + alike_up_to(self.system, self.info, behind_first, most - 1))
+        let behind_first = suffix(self.at.rest, self.bytes);
+        most.min(1 + sharing_up_to(self.system, self.info, behind_first, most - 1))
     }
 }
 
-/// Whether unknown words are made: always where nothing is known.
+/// Returns whether a category makes unknown words: by INVOKE, or because there is no known word.
 #[inline(always)]
 fn makes_words(category: Category, none_known: bool) -> bool
     ensures { result ≡ (category.invoke || none_known) }
@@ -80,10 +85,10 @@ fn makes_words(category: Category, none_known: bool) -> bool
     category.invoke || none_known
 }
 
-/// How many characters of the run behind the first one matter.
+/// Returns how many characters after the first one have to be scanned for the run.
 #[inline(always)]
-fn look_ahead(category: Category, grouping: u16) -> usize
-    ensures { result ≡ looked_ahead category grouping }
+fn lookahead(category: Category, grouping: u16) -> usize
+    ensures { result ≡ lookahead category grouping }
 {
     if !category.group {
         return 0;
@@ -91,7 +96,8 @@ fn look_ahead(category: Category, grouping: u16) -> usize
     (usize::from(grouping) + 1).max(usize::from(category.length))
 }
 
-/// The whole run, where the category groups and no more characters than the grouping follow the first, which takes `first` bytes.
+/// Returns the whole run, if the category has GROUP and at most `grouping` characters follow the
+/// first one, which takes `first` bytes.
 #[inline(always)]
 fn grouped_run(category: Category, grouping: u16, first: usize, run: Run) -> Option<Run>
     requires { first + run.bytes < 2 ^ 64 }
@@ -107,7 +113,7 @@ fn grouped_run(category: Category, grouping: u16, first: usize, run: Run) -> Opt
     }
 }
 
-/// The longest of the lengths from 1 on, were all characters alike.
+/// Returns the longest of the spans that are not grouped, if all characters shared a category.
 #[inline(always)]
 fn longest_in_run(category: Category, following: usize) -> usize
     ensures { result ≡ longest_of category following category.length }
@@ -120,15 +126,16 @@ fn longest_in_run(category: Category, following: usize) -> usize
     }
 }
 
-/// How many characters are alike for sure, where so many are in the run: the first one, and in the run of a grouped category the second.
+/// Returns how many characters certainly share a category with the first one: itself, and in a
+/// grouped run the second one.
 #[inline(always)]
-fn surely_alike(category: Category) -> usize
-    ensures { result ≡ surely_alike category }
+fn certainly_sharing(category: Category) -> usize
+    ensures { result ≡ certainly_sharing category }
 {
     if category.group { 2 } else { 1 }
 }
 
-/// One character, where nothing else is there.
+/// Returns `spans`, or the span of one character if there is no known word and no other span.
 #[inline(always)]
 fn at_least_one(none_known: bool, spans: Spans) -> Spans
     ensures spans { spans_in result ≡ one_if_none none_known (spans_in spans) }

@@ -1,20 +1,20 @@
 //! The words of one surface.
 
 ghost use Rattle.std.specs.Prelude.{◌≡◌, ◌+◌, ◌<◌, ◌≤◌, Some, length, slice_get};
-ghost use Rattle.image_bytes.specs.ImageMeaning.{image_tables};
+ghost use Rattle.image_format.specs.ImageMeaning.{image_tables};
 ghost use Rattle.dict_image.specs.Fitting.{AreFitting};
 ghost use Rattle.dict_image.specs.Numbered.{numbered_tokens};
-ghost use Rattle.paths.specs.Surfaces.{IsWhole, IsWordOf};
+ghost use Rattle.mj_model.specs.Surfaces.{IsWhole, IsWordOf};
 ghost use Rattle.word_lookup.specs.Overlays.{overlay_of};
 ghost use Rattle.word_lookup.specs.Surfaces.{surface_words, tokens_of, words_among, word_with as word_of_surface};
 
 use crate::dictionaries::Dictionaries;
-use dict_image::{Dict, EntryRow, IdsAndCost, TokenRow};
+use dict_image::{Dict, EntryRange, EntryRow, IdsAndCost};
 use mj_model::Word;
-use paths::{EntryList, Surface};
+use mj_model::paths::{EntryList, Surface};
 use std::marker::Model;
 
-/// The words of a surface, whose entries were found once for all of them. Each is read where its entry lies.
+/// The words of a surface, whose entries were looked up once. Each word is read from its entry.
 #[derive(Drop)]
 pub struct SurfaceWords<'a> {
     surface: Surface,
@@ -34,14 +34,14 @@ impl<'a> Model for SurfaceWords<'a> {
 }
 
 impl<'a> SurfaceWords<'a> {
-    /// Those of a surface whose entries are a dictionary's.
+    /// Returns the words of a surface whose entries belong to `dict`.
     pub(crate) fn among(dict: &'a Dict, surface: Surface) -> SurfaceWords<'a>
         requires fits { AreFitting (image_tables dict.now) }
         requires there { surface.first + surface.count
             ≤ length (numbered_tokens (image_tables dict.now)) }
         ensures { result ≡ words_among (numbered_tokens (image_tables dict.now)) surface }
     {
-        let row = TokenRow {
+        let row = EntryRange {
             first: surface.first,
             count: surface.count,
         };
@@ -51,7 +51,7 @@ impl<'a> SurfaceWords<'a> {
         }
     }
 
-    /// Word `i` of them.
+    /// Returns word `i` of the surface, counted from 0.
     pub fn word(&self, i: u32) -> Word
         requires { i < length self.now }
         ensures { slice_get self.now i ≡ Some result }
@@ -62,7 +62,7 @@ impl<'a> SurfaceWords<'a> {
 }
 
 impl<'a> Dictionaries<'a> {
-    /// Word `i` of a surface of these dictionaries, read where its entry lies.
+    /// Returns word `i` of a surface of these dictionaries, read from its entry.
     pub fn word(&self, surface: &Surface, i: u32) -> Word
         requires surface { IsWhole (surface_words (overlay_of self.now)) surface.now }
         requires within { i < surface.now.count }
@@ -72,7 +72,7 @@ impl<'a> Dictionaries<'a> {
     }
 
     /// Returns word `i` of a surface of these dictionaries as a surface of its own.
-    pub fn alone(&self, surface: &Surface, i: u32) -> Surface
+    pub fn single_word_surface(&self, surface: &Surface, i: u32) -> Surface
         requires surface { IsWhole (surface_words (overlay_of self.now)) surface.now }
         requires within { i < surface.now.count }
         ensures { IsWordOf (surface_words (overlay_of self.now)) surface.now i result }
@@ -84,7 +84,7 @@ impl<'a> Dictionaries<'a> {
         }
     }
 
-    /// The words of a surface of these dictionaries.
+    /// Returns the words of a surface of these dictionaries.
     pub fn words_of(&self, surface: &Surface) -> SurfaceWords<'a>
         requires { IsWhole (surface_words (overlay_of self.now)) surface.now }
         ensures { result ≡ surface_words (overlay_of self.now) surface.now }
@@ -92,7 +92,7 @@ impl<'a> Dictionaries<'a> {
         SurfaceWords::among(self.listed(surface.list), *surface)
     }
 
-    /// The dictionary of a list that has entries.
+    /// Returns the dictionary of a list that has entries.
     fn listed(&self, list: EntryList) -> &'a Dict
         requires { 0 < length (tokens_of (overlay_of self.now) list) }
         ensures tokens { tokens_of (overlay_of self.now) list
@@ -106,7 +106,7 @@ impl<'a> Dictionaries<'a> {
     }
 }
 
-/// The word of a surface whose entry has this number, ids and cost.
+/// Returns the word of a surface whose entry has number `token` and these ids and cost.
 fn word_with(surface: &Surface, token: u32, ids: IdsAndCost) -> Word
     ensures { result ≡ word_of_surface surface.now token ids }
 {

@@ -1,54 +1,58 @@
-//! The words of a place as surfaces.
+//! The words of a position, grouped by surface.
 
 ghost use Rattle.std.specs.Prelude.{◌≡◌, ◌<◌, [], Some, chars, length, take, vec_len, IsTrue, IsOk, OnOk, OnErr};
-ghost use Rattle.paths.specs.Blanks.{skip};
-ghost use Rattle.paths.specs.Words.{is_place, words, words_from};
-ghost use Rattle.word_lookup.specs.BlankRuns.{IsKept};
-ghost use Rattle.word_lookup.specs.CharacterRuns.{AreCharacterRuns, AreRunsOver};
+ghost use Rattle.mj_model.specs.Blanks.{skip};
+ghost use Rattle.mj_model.specs.Words.{is_place, words, words_from};
+ghost use Rattle.word_lookup.specs.CategoryScans.{AreCategoryScans};
 ghost use Rattle.word_lookup.specs.FirstCharacters.{first_at, first_in};
 ghost use Rattle.word_lookup.specs.Overlays.{overlay_of};
+ghost use Rattle.word_lookup.specs.ScanCaches.{AreScansOver, IsScannedAt};
 ghost use Rattle.word_lookup.specs.Surfaces.{GrowsByWords};
 ghost use Rattle.word_lookup.specs.WordsHere.{unknown_here};
 
+use crate::blank_scan::BlankScan;
 use crate::dictionaries::Dictionaries;
 use crate::first_character::FirstCharacter;
+use crate::scan_cache::ScanCache;
 use crate::unknown_entries::UnknownEntries;
 use crate::unknown_start::UnknownStart;
-use crate::word_start::{WordStart, behind};
-use paths::{BlankRun, LastRuns, Surface};
+use crate::word_start::{WordStart, suffix};
+use mj_model::paths::Surface;
 use std::alloc::AllocError;
 
 impl<'a> Dictionaries<'a> {
-    /// Appends the words of a place to `out` as surfaces, in the order of `words_at`, for places of one text in turn: `last` are the
-    /// runs that were looked at last, and none before the first place. Where places rise, a run is looked at once, however many places in
-    /// it are asked for. On `Err` memory was refused, and `out` is as before.
+    /// Appends the words of position `place` to `out`, grouped by surface, in the order of
+    /// `words_at`.
+    ///
+    /// `last` caches the runs that were scanned before; start with `ScanCache::none()`. For
+    /// positions in increasing order, each run is scanned once. On an allocation failure `out` is
+    /// unchanged.
     #[inline(always)]
-    pub fn surfaces_in_turn(
+    pub fn surfaces_at(
         &self,
         text: &str,
         place: usize,
-        last: &mut LastRuns,
+        last: &mut ScanCache,
         out: &mut Vec<Surface>,
     ) -> Result<(), AllocError>
         requires place { IsTrue (is_place text.now place) }
-        requires last { AreRunsOver (overlay_of self.now) text.now last.old }
+        requires last { AreScansOver (overlay_of self.now) text.now last.old }
         ensures appended { OnOk result (GrowsByWords (overlay_of self.now)
             (words (overlay_of self.now) text.now place) out.old.items out.new.items) }
-        ensures kept { OnErr result (out.new.items ≡ out.old.items) }
-        // Where there are none, no memory is taken.
+        ensures unchanged { OnErr result (out.new.items ≡ out.old.items) }
+        // Without words nothing is allocated.
         ensures none { words (overlay_of self.now) text.now place ≡ [] → IsOk result }
-        ensures last { AreRunsOver (overlay_of self.now) text.now last.new }
-        ensures looked_at { IsKept place (skip (overlay_of self.now) text.now place)
-            last.new.blanks }
+        ensures last { AreScansOver (overlay_of self.now) text.now last.new }
+        ensures scanned { IsScannedAt (overlay_of self.now) text.now place last.new }
     {
-        let Some(first) = self.first_near(behind(text, place), &mut last.range) else {
-            last.blanks = Some(BlankRun {
+        let Some(first) = self.first_with_hint(suffix(text, place), &mut last.range) else {
+            last.blanks = Some(BlankScan {
                 from: place,
                 to: place,
             });
             return Ok(());
         };
-        let start = self.blanks_in_turn(first, text, place, last);
+        let start = self.cached_blanks(first, text, place, last);
         if start == text.len() {
             return Ok(());
         }
@@ -60,8 +64,8 @@ impl<'a> Dictionaries<'a> {
         appended
     }
 
-    /// Appends the surfaces of a place, which begin at `start`, where `first` is the first character of the place. On `Err` some may stand
-    /// behind what was there before.
+    /// Appends the surfaces of position `place`, which start at `start`. `first` is the first
+    /// character at `place`. On an error, some of them may have been appended.
     #[inline(always)]
     fn append_surfaces(
         &self,
@@ -69,18 +73,18 @@ impl<'a> Dictionaries<'a> {
         text: &str,
         place: usize,
         start: usize,
-        last: &mut LastRuns,
+        last: &mut ScanCache,
         out: &mut Vec<Surface>,
     ) -> Result<(), AllocError>
         requires there { IsTrue (is_place text.now place) }
         requires first { Some first ≡ first_at (overlay_of self.now) text.now place }
-        requires behind_blanks { start ≡ skip (overlay_of self.now) text.now place }
+        requires after_blanks { start ≡ skip (overlay_of self.now) text.now place }
         requires within { start < length text.now }
-        requires last { AreCharacterRuns (overlay_of self.now).system.info text.now last.old }
+        requires last { AreCategoryScans (overlay_of self.now).system.info text.now last.old }
         ensures appended { OnOk result (GrowsByWords (overlay_of self.now)
             (words_from (overlay_of self.now) text.now place start) out.old.items out.new.items) }
-        ensures kept { take (vec_len out.old) out.new.items ≡ out.old.items }
-        ensures last { AreCharacterRuns (overlay_of self.now).system.info text.now last.new }
+        ensures unchanged { take (vec_len out.old) out.new.items ≡ out.old.items }
+        ensures last { AreCategoryScans (overlay_of self.now).system.info text.now last.new }
         ensures blanks { last.new.blanks ≡ last.old.blanks }
     {
         let count = out.len();
@@ -88,17 +92,18 @@ impl<'a> Dictionaries<'a> {
             place,
             start,
             text,
-            rest: behind(text, start),
+            rest: suffix(text, start),
         };
-        let first = self.first_behind(first, at, &mut last.range);
+        let first = self.first_after_blanks(first, at, &mut last.range);
         self.append_known(at, out)?;
         let none_known = out.len() == count;
         self.append_unknown(first, at, none_known, last, out)
     }
 
-    /// The first character where words begin, where `first` is that of their place: the same where no blanks stand between.
+    /// Returns the first character after the blanks. `first` is the first character at the
+    /// position: the result if there are no blanks.
     #[inline(always)]
-    fn first_behind(
+    fn first_after_blanks(
         &self,
         first: FirstCharacter,
         at: WordStart<'_>,
@@ -112,26 +117,27 @@ impl<'a> Dictionaries<'a> {
         if at.start == at.place {
             return first;
         }
-        self.first_near(at.rest, range).unwrap_or(first)
+        self.first_with_hint(at.rest, range).unwrap_or(first)
     }
 
-    /// Appends the surfaces of the unknown words that begin here with the character `first`.
+    /// Appends the surfaces of the unknown words that start at `at` with the character `first`. On
+    /// an error, some of them may have been appended.
     #[inline(always)]
     fn append_unknown(
         &self,
         first: FirstCharacter,
         at: WordStart<'_>,
         none_known: bool,
-        last: &mut LastRuns,
+        last: &mut ScanCache,
         out: &mut Vec<Surface>,
     ) -> Result<(), AllocError>
         requires first { Some first ≡ first_in (overlay_of self.now).system.info
             (chars at.rest.now) }
-        requires last { AreCharacterRuns (overlay_of self.now).system.info at.text.now last.old }
+        requires last { AreCategoryScans (overlay_of self.now).system.info at.text.now last.old }
         ensures appended { OnOk result (GrowsByWords (overlay_of self.now)
             (unknown_here at.entry (overlay_of self.now) none_known) out.old.items out.new.items) }
-        ensures kept { take (vec_len out.old) out.new.items ≡ out.old.items }
-        ensures last { AreCharacterRuns (overlay_of self.now).system.info
+        ensures unchanged { take (vec_len out.old) out.new.items ≡ out.old.items }
+        ensures last { AreCategoryScans (overlay_of self.now).system.info
             at.entry.text.now last.new }
         ensures blanks { last.new.blanks ≡ last.old.blanks }
     {

@@ -10,7 +10,7 @@ ghost use Rattle.word_lookup.specs.Surfaces.{GrowsByWords};
 use crate::dictionaries::Dictionaries;
 use crate::spans::Spans;
 use crate::word_start::WordStart;
-use paths::{EntryList, Surface};
+use mj_model::paths::{EntryList, Surface};
 use std::alloc::AllocError;
 
 /// The unknown entries of a category of a system dictionary.
@@ -25,7 +25,7 @@ impl<'a> UnknownEntries<'a> {
     ghost use Rattle.word_lookup.specs.UnknownEntries.{entries_of};
     ghost use Rattle.word_lookup.specs.WordsHere.{spans_here, unknown_up_to};
 
-    /// Appends the surfaces of these spans.
+    /// Appends the surfaces of these spans. On an error, some of them may have been appended.
     #[inline(always)]
     pub fn append_spans(
         self,
@@ -38,7 +38,7 @@ impl<'a> UnknownEntries<'a> {
         ensures appended { OnOk result (GrowsByWords (overlay_of self.entry.dictionaries)
             (spans_here at.entry (entries_of self.entry) (spans_in spans))
             out.old.items out.new.items) }
-        ensures kept { take (vec_len out.old) out.new.items ≡ out.old.items }
+        ensures unchanged { take (vec_len out.old) out.new.items ≡ out.old.items }
     {
         if let Some(run) = spans.grouped {
             self.append_surface(at, at.start + run.bytes, out)?;
@@ -46,7 +46,8 @@ impl<'a> UnknownEntries<'a> {
         self.append_lengths(spans.longest, at, out)
     }
 
-    /// Appends those of 1 character to `longest` characters.
+    /// Appends the surfaces of 1 to `longest` characters. On an error, some of them may have been
+    /// appended.
     #[inline(always)]
     fn append_lengths(
         self,
@@ -58,7 +59,7 @@ impl<'a> UnknownEntries<'a> {
         ensures appended { OnOk result (GrowsByWords (overlay_of self.entry.dictionaries)
             (spans_here at.entry (entries_of self.entry) (up_to longest))
             out.old.items out.new.items) }
-        ensures kept { take (vec_len out.old) out.new.items ≡ out.old.items }
+        ensures unchanged { take (vec_len out.old) out.new.items ≡ out.old.items }
     {
         let mut end = at.start;
         for c in at.rest.chars().take(longest) {
@@ -68,7 +69,7 @@ impl<'a> UnknownEntries<'a> {
         Ok(())
     }
 
-    /// Appends that of the unknown words that end at `end`.
+    /// Appends the surface of the unknown words from `at` to `end`.
     #[inline(always)]
     fn append_surface(
         self,
@@ -80,7 +81,7 @@ impl<'a> UnknownEntries<'a> {
         ensures appended { OnOk result (GrowsByWords (overlay_of self.entry.dictionaries)
             (unknown_up_to at.entry end (entries_of self.entry))
             out.old.items out.new.items) }
-        ensures kept { take (vec_len out.old) out.new.items ≡ out.old.items }
+        ensures unchanged { take (vec_len out.old) out.new.items ≡ out.old.items }
     {
         let row = self.dictionaries.system.unknown(self.category).row();
         out.push(at.surface(EntryList::Categories, row, end))?;

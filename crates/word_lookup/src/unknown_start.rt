@@ -1,23 +1,23 @@
-//! Where the unknown words of a place begin.
+//! The start of the unknown words of a position.
 
 ghost use Rattle.std.specs.Prelude.{◌≡◌, ◌<◌, length};
 ghost use Rattle.std.specs.Char.{len_utf8};
 ghost use Rattle.std.proofs.Props.{props};
-ghost use Rattle.image_bytes.specs.ImageMeaning.{image_tables};
+ghost use Rattle.image_format.specs.ImageMeaning.{image_tables};
 ghost use Rattle.mj_model.specs.Tables.{System};
-ghost use Rattle.word_lookup.specs.CharacterRuns.{IsFirst};
+ghost use Rattle.word_lookup.specs.CategoryScans.{IsFirst};
 
 use crate::word_start::WordStart;
 use dict_image::Dict;
 use mj_model::CharInfo;
 
-/// Where the unknown words of a place begin, with their first character and the categories that a system dictionary gives it.
+/// The start of the unknown words of a position, with the first character there and its categories.
 #[derive(Clone, Copy)]
 pub struct UnknownStart<'a> {
     pub system: &'a Dict,
     pub at: WordStart<'a>,
     pub first: char,
-    /// How many bytes it takes.
+    /// The length of the first character in bytes.
     pub bytes: usize,
     pub info: CharInfo,
     ghost is_system: { (image_tables system.now).kind ≡ System } by { Prim.hlevel props },

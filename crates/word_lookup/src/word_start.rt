@@ -1,17 +1,17 @@
-//! Where the words of a place begin.
+//! The start of the words of a position, after its blanks.
 
 ghost use Rattle.std.specs.Prelude.{◌≡◌, ◌+◌, ◌<◌, ◌^◌, length, drop, IsTrue, IsUtf8};
 ghost use Rattle.std.proofs.Props.{props};
-ghost use Rattle.paths.specs.Words.{is_place};
+ghost use Rattle.mj_model.specs.Words.{is_place};
 
-use dict_image::TokenRow;
-use paths::{EntryList, Surface};
+use dict_image::EntryRange;
+use mj_model::paths::{EntryList, Surface};
 
-/// Where the surfaces of a place's words begin, in bytes of a text, and the rest of the text from there on.
+/// The start of the surfaces of a position's words, in bytes, and the text from there on.
 #[derive(Clone, Copy)]
 pub struct WordStart<'a> {
     pub place: usize,
-    /// Behind the blanks of the place.
+    /// The position after the blanks at `place`.
     pub start: usize,
     pub text: &'a str,
     pub rest: &'a str,
@@ -24,9 +24,9 @@ pub struct WordStart<'a> {
 impl WordStart<'_> {
     ghost use Rattle.word_lookup.specs.SurfacesHere.{surface_here};
 
-    /// The surface of entries of a list that ends at `end`.
+    /// Returns the surface from this position to `end` with the entries `row` of a list.
     #[inline(always)]
-    pub(crate) fn surface(self, list: EntryList, row: TokenRow, end: usize) -> Surface
+    pub(crate) fn surface(self, list: EntryList, row: EntryRange, end: usize) -> Surface
         ensures { result ≡ surface_here self.entry list row end }
     {
         Surface {
@@ -40,9 +40,9 @@ impl WordStart<'_> {
     }
 }
 
-/// The rest of a text from a place on.
+/// Returns the part of a text from position `place` on.
 #[inline(always)]
-pub(crate) fn behind(text: &str, place: usize) -> &str
+pub(crate) fn suffix(text: &str, place: usize) -> &str
     requires { IsTrue (is_place text.now place) }
     ensures { result.now ≡ drop place text.now }
 {

@@ -1,49 +1,52 @@
-//! What a command line of `dictc` asks for.
+//! The commands of `dictc` and their options.
 
 use std::string::String;
 
-/// What is asked for.
+/// A command of `dictc`.
 #[derive(PartialEq, Drop)]
-pub enum Asked {
-    /// A dictionary is compiled to an image.
+pub enum Command {
+    /// Compile a dictionary to an image.
     Image(Options),
-    /// The ids and costs of the entries of images are told.
+    /// Print the ids and costs of the entries of images.
     Ids(IdsOptions),
 }
 
-/// The images whose entries are looked at, and the first fields of the features of those whose ids and costs are told.
+/// The options of `dictc ids`: the images, and the first fields of the features of the requested
+/// entries.
 #[derive(PartialEq, Drop)]
 pub struct IdsOptions {
     pub dic: String,
     pub users: Vec<String>,
     pub skip_digest: bool,
     pub feature: String,
-    /// Whether the program says on standard error what it does.
+    /// Whether log messages are printed on standard error.
     pub verbose: bool,
 }
 
-/// The dictionary to compile, with the path of each file. Of the lexicons there is one at least.
+/// The options of a compilation, with the path of each file. There is at least one lexicon.
 #[derive(PartialEq, Drop)]
 pub struct Options {
     pub base: Base,
     pub out: String,
     pub lexicons: Vec<String>,
-    /// Whether all faults of lines of the lexicons are told, up to a bound, in place of the first one.
+    /// Whether all invalid lines of the lexicons are reported, up to a limit, in place of the first
+    /// one.
     pub all_faults: bool,
-    /// Whether the program says on standard error what it does.
+    /// Whether log messages are printed on standard error.
     pub verbose: bool,
 }
 
-/// What the words of the lexicons stand on.
+/// What the lexicons are compiled with.
 #[derive(PartialEq, Drop)]
 pub enum Base {
-    /// A system dictionary of its own: `matrix.def`, `char.def` and `unk.def`.
+    /// The definitions of a new system dictionary: `matrix.def`, `char.def` and `unk.def`.
     Definitions {
         matrix: String,
         chars: String,
         unk: String,
     },
-    /// The system dictionary of an image, whose digest may be skipped: they make a user dictionary for it.
+    /// The image of an existing system dictionary, for which a user dictionary is compiled. The
+    /// test of its checksum may be skipped.
     System {
         dic: String,
         skip_digest: bool,

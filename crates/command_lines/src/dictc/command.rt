@@ -1,111 +1,135 @@
-//! What is asked for by a command line of `dictc`.
+//! Parsing the command line of `dictc`.
 
-use super::choices::{Asked, Base, IdsOptions, Options};
-use super::mecab_habits::habit_in;
+use super::choices::{Base, Command, IdsOptions, Options};
+use super::mecab_hints::hint_for;
 use super::rows::{compiling_rows, ids_rows, rows, system_rows, user_rows};
-use crate::about::VERSION;
 use crate::options_fault::OptionsFault;
 use crate::row::{Row, with_rows};
-use crate::words::{check, file_among, file_behind, found, needed_text, texts_of, without_feeds};
-use clap::{ArgMatches, Command};
+use crate::texts::Texts;
+use crate::words::{
+    check, file_after, file_among, found, needed_text, texts_of, with_feed_placeholders,
+};
+use clap::{ArgMatches, Command as ClapCommand};
 use std::alloc::{AllocError, Global};
 use std::string::String;
 
-/// The name of the program.
+/// Name of the program.
 pub(crate) const NAME: &str = "dictc";
 
-/// The name of the subcommand that compiles a system dictionary.
+/// Name of the subcommand that compiles a system dictionary.
 const SYSTEM: &str = "system";
 
-/// The name of the subcommand that compiles a user dictionary.
+/// Name of the subcommand that compiles a user dictionary.
 const USER: &str = "user";
 
-/// The name of the subcommand that tells ids and costs.
+/// Name of the subcommand that prints ids and costs.
 const IDS: &str = "ids";
 
-/// The options that take the name of a file.
+/// The options whose value is a file name.
 const FILES: [&str; 6] = ["--matrix", "--char", "--unk", "--dic", "-u", "--out"];
 
-/// What is said where no subcommand is given.
-const NO_SUBCOMMAND: &str = "one of 'dictc system', 'dictc user' and 'dictc ids' has to be given";
+/// Key of the hint if no subcommand is given.
+const NO_SUBCOMMAND: &str = "no subcommand";
 
-/// Reads the words that follow the program's name.
-pub fn options(alloc: Global, words: Vec<String>) -> Result<Asked, OptionsFault> {
-    let told = without_feeds(alloc, &words)?;
-    check(alloc, NAME, command(alloc)?, &told).map_err(|fault| refused(alloc, fault, &words))?;
-    let matches = found(alloc, NAME, command(alloc)?, &words)?;
-    asked(alloc, &matches)
+/// Parses the words that follow the program's name. Help, hints and explanations are taken from
+/// `texts`.
+pub fn parse_command(
+    alloc: Global,
+    words: Vec<String>,
+    texts: &Texts<'_>,
+) -> Result<Command, OptionsFault> {
+    let reported = with_feed_placeholders(alloc, &words)?;
+    check(alloc, NAME, command(alloc, texts)?, &reported).map_err(|fault| parser_error(
+        alloc, fault, &words, texts,
+    ))?;
+    let matches = found(alloc, NAME, command(alloc, texts)?, &words, texts)?;
+    command_of(alloc, &matches, texts)
 }
 
-/// The parser's fault, as it is told of these words: what to type instead of an option of mecab-dict-index, or of a file's name.
-fn refused(alloc: Global, fault: OptionsFault, words: &[String]) -> OptionsFault {
-    match (file_behind(words, &FILES), habit_in(words)) {
-        (None, Some(instead)) => fault.or_instead(alloc, NAME, instead),
+/// Returns the parser's error with a better hint: what to write in place of an option of
+/// mecab-dict-index, or of a file name.
+fn parser_error(
+    alloc: Global,
+    fault: OptionsFault,
+    words: &[String],
+    texts: &Texts<'_>,
+) -> OptionsFault {
+    match (file_after(words, &FILES), hint_for(words)) {
+        (None, Some(key)) => fault.with_hint(alloc, NAME, texts.hint_of(key)),
         _ => fault.with_file_tip(alloc, meant_file(words)),
     }
 }
 
-/// What the program takes.
-fn command<'a>(alloc: Global) -> Result<Command<'a>, AllocError> {
-    let command = Command::new(alloc, NAME)
+/// Returns the definition of the command line for the parser.
+fn command<'a>(alloc: Global, texts: &Texts<'_>) -> Result<ClapCommand<'a>, AllocError> {
+    let command = ClapCommand::new(alloc, NAME)
         .bin_name(NAME)?
-        .about("Compiles the sources of a dictionary to an image")
-        .version(VERSION)
+        .about(texts.help_of(NAME))
+        .version(texts.version)
         .no_binary_name(true);
-    with_subcommands(alloc, with_rows(alloc, command, rows())?)
+    with_subcommands(alloc, with_rows(alloc, command, rows(), texts)?, texts)
 }
 
-/// What was found is asked for.
-fn asked(alloc: Global, matches: &ArgMatches<'_>) -> Result<Asked, OptionsFault> {
+/// Returns the requested command.
+fn command_of(
+    alloc: Global,
+    matches: &ArgMatches<'_>,
+    texts: &Texts<'_>,
+) -> Result<Command, OptionsFault> {
     match matches.subcommand() {
-        Some((name, given)) if name == IDS => Ok(Asked::Ids(ids_options(alloc, given)?)),
-        Some((name, given)) => Ok(Asked::Image(image_options(alloc, name, given)?)),
-        None => Err(OptionsFault::wrong(alloc, NAME, NO_SUBCOMMAND)),
+        Some((name, given)) if name == IDS => Ok(Command::Ids(ids_options(alloc, given)?)),
+        Some((name, given)) => Ok(Command::Image(image_options(alloc, name, given)?)),
+        None => Err(OptionsFault::wrong(alloc, NAME, texts.hint_of(NO_SUBCOMMAND))),
     }
 }
 
-/// The word that is meant as the name of a file and begins as an option, if there is one: no option has a `.`.
+/// Returns the word that looks like an option but is meant as a file name, if there is one. No
+/// option contains a `.`.
 fn meant_file(words: &[String]) -> Option<&str> {
-    match file_behind(words, &FILES) {
+    match file_after(words, &FILES) {
         Some(word) => Some(word),
         None => file_among(words),
     }
 }
 
-/// A command that has the subcommands too, in the order of help.
-fn with_subcommands<'a>(alloc: Global, command: Command<'a>) -> Result<Command<'a>, AllocError> {
-    let command = with_system(alloc, command)?;
-    let command = with_user(alloc, command)?;
-    with_ids(alloc, command)
+/// Adds the subcommands, in the order of help.
+fn with_subcommands<'a>(
+    alloc: Global,
+    command: ClapCommand<'a>,
+    texts: &Texts<'_>,
+) -> Result<ClapCommand<'a>, AllocError> {
+    let command = command.subcommand(compiling(alloc, SYSTEM, system_rows(), texts)?)?;
+    let command = command.subcommand(compiling(alloc, USER, user_rows(), texts)?)?;
+    command.subcommand(subcommand(alloc, IDS, ids_rows(), texts)?)
 }
 
-fn with_system<'a>(alloc: Global, command: Command<'a>) -> Result<Command<'a>, AllocError> {
-    let system = Command::new(alloc, SYSTEM).about("Compiles a system dictionary");
-    command.subcommand(compiling(alloc, system, system_rows())?)
-}
-
-fn with_user<'a>(alloc: Global, command: Command<'a>) -> Result<Command<'a>, AllocError> {
-    let user = Command::new(alloc, USER).about("Compiles a user dictionary");
-    command.subcommand(compiling(alloc, user, user_rows())?)
-}
-
-fn with_ids<'a>(alloc: Global, command: Command<'a>) -> Result<Command<'a>, AllocError> {
-    let ids = Command::new(alloc, IDS).about(
-        "Prints which ids and word costs the entries of a part of speech have",
-    );
-    command.subcommand(with_rows(alloc, ids, ids_rows())?)
-}
-
-/// A subcommand that compiles, with these rows of its own.
+/// Returns a compiling subcommand: its own rows, and then those that both of them share.
 fn compiling<'a>(
     alloc: Global,
-    command: Command<'a>,
+    name: &'static str,
     rows: &[Row],
-) -> Result<Command<'a>, AllocError> {
-    with_rows(alloc, with_rows(alloc, command, rows)?, compiling_rows())
+    texts: &Texts<'_>,
+) -> Result<ClapCommand<'a>, AllocError> {
+    with_rows(
+        alloc,
+        subcommand(alloc, name, rows, texts)?,
+        compiling_rows(),
+        texts,
+    )
 }
 
-/// The choices of a subcommand that compiles.
+/// Returns a subcommand with the rows of a table.
+fn subcommand<'a>(
+    alloc: Global,
+    name: &'static str,
+    rows: &[Row],
+    texts: &Texts<'_>,
+) -> Result<ClapCommand<'a>, AllocError> {
+    let command = ClapCommand::new(alloc, name).about(texts.help_of(name));
+    with_rows(alloc, command, rows, texts)
+}
+
+/// Returns the options of a compiling subcommand.
 fn image_options(
     alloc: Global,
     subcommand: &str,
@@ -120,11 +144,12 @@ fn image_options(
     })
 }
 
-/// What the lexicons are compiled with: definitions, or for `dictc user` a system dictionary.
+/// Returns what the lexicons are compiled with: a system dictionary for `dictc user`, otherwise
+/// definitions.
 fn base(alloc: Global, subcommand: &str, given: &ArgMatches<'_>) -> Result<Base, OptionsFault> {
     if subcommand == USER {
         return Ok(Base::System {
-            dic: needed_text(alloc, NAME, given, "dic")?,
+            dic: needed_text(alloc, NAME, given, "base")?,
             skip_digest: given.get_flag("skip-digest"),
         });
     }
@@ -135,7 +160,7 @@ fn base(alloc: Global, subcommand: &str, given: &ArgMatches<'_>) -> Result<Base,
     })
 }
 
-/// The choices of `dictc ids`.
+/// Returns the options of `dictc ids`.
 fn ids_options(alloc: Global, given: &ArgMatches<'_>) -> Result<IdsOptions, OptionsFault> {
     Ok(IdsOptions {
         dic: needed_text(alloc, NAME, given, "dic")?,

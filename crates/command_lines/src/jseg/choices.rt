@@ -1,28 +1,29 @@
-//! What a command line of `jseg` asks for.
+//! The commands of `jseg` and their options.
 
 use std::string::String;
 
-/// What the program is asked to do.
+/// A command of `jseg`.
 #[derive(PartialEq, Drop)]
-pub enum Task {
-    /// To cut the text on standard input.
-    Cut(Options),
-    /// To list the images that a bare name may find.
+pub enum Command {
+    /// Segment the text on standard input.
+    Segment(Options),
+    /// List the images that bare names may find.
     ListImages { verbose: bool },
 }
 
-/// By what the text is cut.
+/// The dictionaries with which the text is segmented.
 #[derive(PartialEq, Drop)]
 pub enum Input {
-    /// The images of a system dictionary and of user dictionaries laid over it, whose digests may be skipped.
+    /// The images of a system dictionary and of user dictionaries. The test of their checksums may
+    /// be skipped.
     Images {
         dic: String,
         users: Vec<String>,
         skip_digest: bool,
     },
-    /// The source files of this directory.
+    /// The sources in this directory.
     Sources(String),
-    /// The sample's sources.
+    /// The sample's sources, which are part of the program.
     Sample,
 }
 
@@ -37,37 +38,39 @@ pub enum Form {
 #[derive(Clone, Copy, Debug, PartialEq, Eq, Drop)]
 pub struct LatticeChoice {
     pub form: Form,
-    /// By how much a word may have lost at most, where not all are printed.
+    /// Greatest cost difference to the best path of the words that are printed; None if all words
+    /// are.
     pub within: Option<i64>,
 }
 
-/// What is printed of each line in place of the words of its best path.
+/// The view that is printed for each line in place of the words of its best path.
 #[derive(Clone, Copy, Debug, PartialEq, Eq, Drop)]
 pub enum ViewChoice {
-    /// Its lattice
+    /// The lattice of the line.
     Lattice(LatticeChoice),
-    /// Each word of its best path with what it costs, and its best rival
+    /// Each word of the best path with its cost, and its best rival.
     Why,
 }
 
-/// The choices of a command line by which a text is cut, as given.
+/// The options of a segmentation, as they were given.
 #[derive(PartialEq, Drop)]
 pub struct Options {
     pub input: Input,
-    /// How many characters may follow the first one of a grouped unknown word: 0 to 1,000, and 24 where it isn't given.
+    /// How many characters may follow the first one of a grouped unknown word: 0 to 1,000. The
+    /// default is 24.
     pub grouping: u16,
-    /// `wakati`, where the output format is chosen by name.
+    /// `wakati`, if the output format is chosen by name.
     pub output: Option<String>,
     /// The format of known words.
     pub node: Option<String>,
     /// The format of unknown words.
     pub unk: Option<String>,
-    /// What is printed before the first word of a line.
+    /// The text that is printed before the first word of a line.
     pub bos: Option<String>,
-    /// What is printed behind the last word of a line.
+    /// The text that is printed after the last word of a line.
     pub eos: Option<String>,
-    /// What is printed in place of the words of best paths, where something is.
+    /// The view that is printed in place of the words of best paths, if one is chosen.
     pub view: Option<ViewChoice>,
-    /// Whether the program says on standard error what it does.
+    /// Whether log messages are printed on standard error.
     pub verbose: bool,
 }

@@ -1,72 +1,88 @@
-//! What is asked for by a command line of `jseg`.
+//! Parsing the command line of `jseg`.
 
-use super::choices::{Form, Input, LatticeChoice, Options, Task, ViewChoice};
-use super::mecab_habits::{habit_in, habits};
+use super::choices::{Command, Form, Input, LatticeChoice, Options, ViewChoice};
+use super::mecab_hints::{hint_for, rejected_rows};
 use super::rows::{INPUTS, rows};
-use crate::about::VERSION;
 use crate::options_fault::OptionsFault;
 use crate::row::with_rows;
-use crate::words::{check, file_behind, found, text_of, texts_of, without_feeds};
-use clap::{ArgGroup, ArgMatches, Command};
+use crate::texts::Texts;
+use crate::words::{check, file_after, found, text_of, texts_of, with_feed_placeholders};
+use clap::{ArgGroup, ArgMatches, Command as ClapCommand};
 use mj_model::GROUPING_DEFAULT;
 use std::alloc::{AllocError, Global};
 use std::string::String;
 
-/// The name of the program.
+/// Name of the program.
 pub(crate) const NAME: &str = "jseg";
 
-/// The options that take the name of a file or a directory.
+/// The options whose value is the name of a file or a directory.
 const FILES: [&str; 3] = ["-d", "-u", "--sources"];
 
-/// What is said where nothing says by what the text is to be cut.
-const NO_INPUT: &str = "one of -d IMG, --sources DIR and --sample has to be given";
+/// Key of the hint if no dictionary is chosen.
+const NO_INPUT: &str = "no input";
 
-/// What is said where no lattice is printed.
-const NO_LATTICE: &str = "--within N is for --lattice FORM";
+/// Key of the hint if `--within` is given without `--lattice`.
+const NO_LATTICE: &str = "no lattice";
 
-/// Reads the words that follow the program's name.
-pub fn task(alloc: Global, words: Vec<String>) -> Result<Task, OptionsFault> {
-    let told = without_feeds(alloc, &words)?;
-    check(alloc, NAME, command(alloc)?, &told).map_err(|fault| refused(alloc, fault, &words))?;
-    let matches = found(alloc, NAME, command(alloc)?, &words)?;
-    asked(alloc, &matches)
+/// Parses the words that follow the program's name. Help, hints and explanations are taken from
+/// `texts`.
+pub fn parse_command(
+    alloc: Global,
+    words: Vec<String>,
+    texts: &Texts<'_>,
+) -> Result<Command, OptionsFault> {
+    let reported = with_feed_placeholders(alloc, &words)?;
+    check(alloc, NAME, command(alloc, texts)?, &reported).map_err(|fault| parser_error(
+        alloc, fault, &words,
+    ))?;
+    let matches = found(alloc, NAME, command(alloc, texts)?, &words, texts)?;
+    command_of(alloc, &matches, texts)
 }
 
-/// The parser's fault, as it is told of these words. The parser's own tip is for a program that takes words.
-fn refused(alloc: Global, fault: OptionsFault, words: &[String]) -> OptionsFault {
+/// Returns the parser's error with a better hint for file names. The parser's own tip is removed,
+/// because `jseg` takes no words.
+fn parser_error(alloc: Global, fault: OptionsFault, words: &[String]) -> OptionsFault {
     fault
         .without_tip(alloc)
-        .with_file_tip(alloc, file_behind(words, &FILES))
+        .with_file_tip(alloc, file_after(words, &FILES))
 }
 
-/// What the program takes.
-fn command<'a>(alloc: Global) -> Result<Command<'a>, AllocError> {
-    let command = Command::new(alloc, NAME)
-        .about("Cuts the Japanese text on standard input into words")
-        .version(VERSION)
+/// Returns the definition of the command line for the parser.
+fn command<'a>(alloc: Global, texts: &Texts<'_>) -> Result<ClapCommand<'a>, AllocError> {
+    let command = ClapCommand::new(alloc, NAME)
+        .about(texts.help_of(NAME))
+        .version(texts.version)
         .override_usage("jseg [OPTIONS] <-d IMG|--sources DIR|--sample> < TEXT")
         .no_binary_name(true);
-    let command = with_rows(alloc, command, rows())?;
-    let command = with_rows(alloc, command, habits())?;
+    let command = with_rows(alloc, command, rows(), texts)?;
+    let command = with_rows(alloc, command, rejected_rows(), texts)?;
     with_input_group(alloc, command)
 }
 
-/// What was found is asked for.
-fn asked(alloc: Global, matches: &ArgMatches<'_>) -> Result<Task, OptionsFault> {
-    match habit_in(matches) {
-        Some(instead) => Err(OptionsFault::wrong(alloc, NAME, instead)),
-        None if matches.get_flag("dictionaries") => Ok(Task::ListImages {
+/// Returns the requested command, or the error with a hint if an option of MeCab was given.
+fn command_of(
+    alloc: Global,
+    matches: &ArgMatches<'_>,
+    texts: &Texts<'_>,
+) -> Result<Command, OptionsFault> {
+    match hint_for(matches) {
+        Some(key) => Err(OptionsFault::wrong(alloc, NAME, texts.hint_of(key))),
+        None if matches.get_flag("dictionaries") => Ok(Command::ListImages {
             verbose: matches.get_flag("verbose"),
         }),
-        None => Ok(Task::Cut(choices(alloc, matches)?)),
+        None => Ok(Command::Segment(choices(alloc, matches, texts)?)),
     }
 }
 
-fn with_input_group<'a>(alloc: Global, command: Command<'a>) -> Result<Command<'a>, AllocError> {
+fn with_input_group<'a>(
+    alloc: Global,
+    command: ClapCommand<'a>,
+) -> Result<ClapCommand<'a>, AllocError> {
     command.group(input_group(alloc)?)
 }
 
-/// Of what the text is cut by only one is given, or that no text is cut.
+/// Returns the group of options that choose the dictionary, or list the images. At most one of them
+/// may be given.
 fn input_group<'a>(alloc: Global) -> Result<ArgGroup<'a>, AllocError> {
     let [dic, sources, sample, dictionaries] = INPUTS;
     ArgGroup::new(alloc, "input")
@@ -76,10 +92,14 @@ fn input_group<'a>(alloc: Global) -> Result<ArgGroup<'a>, AllocError> {
         .arg(dictionaries)
 }
 
-/// The choices that were found.
-fn choices(alloc: Global, matches: &ArgMatches<'_>) -> Result<Options, OptionsFault> {
+/// Returns the options of a segmentation.
+fn choices(
+    alloc: Global,
+    matches: &ArgMatches<'_>,
+    texts: &Texts<'_>,
+) -> Result<Options, OptionsFault> {
     let Some(input) = input(alloc, matches)? else {
-        return Err(OptionsFault::wrong(alloc, NAME, NO_INPUT));
+        return Err(OptionsFault::wrong(alloc, NAME, texts.hint_of(NO_INPUT)));
     };
     let mut options = Options {
         input,
@@ -89,14 +109,14 @@ fn choices(alloc: Global, matches: &ArgMatches<'_>) -> Result<Options, OptionsFa
         unk: None,
         bos: None,
         eos: None,
-        view: view(alloc, matches)?,
+        view: view(alloc, matches, texts)?,
         verbose: matches.get_flag("verbose"),
     };
     read_formats(alloc, matches, &mut options)?;
     Ok(options)
 }
 
-/// The formats that were found, by name and by their texts.
+/// Reads the output formats into `options`, by name and by text.
 fn read_formats(
     alloc: Global,
     matches: &ArgMatches<'_>,
@@ -110,7 +130,8 @@ fn read_formats(
     Ok(())
 }
 
-/// By what the text is cut: an image, a directory or the sample; None where none is given.
+/// Returns the chosen dictionaries: images, a source directory or the sample; None if none are
+/// chosen.
 fn input(alloc: Global, matches: &ArgMatches<'_>) -> Result<Option<Input>, AllocError> {
     if let Some(dic) = text_of(alloc, matches, "dic")? {
         return Ok(Some(Input::Images {
@@ -125,20 +146,28 @@ fn input(alloc: Global, matches: &ArgMatches<'_>) -> Result<Option<Input>, Alloc
     Ok(matches.get_flag("sample").then_some(Input::Sample))
 }
 
-/// What is printed of each line; None where the words of its best path are.
-fn view(alloc: Global, matches: &ArgMatches<'_>) -> Result<Option<ViewChoice>, OptionsFault> {
-    match lattice(alloc, matches)? {
+/// Returns the chosen view; None if the words of best paths are printed.
+fn view(
+    alloc: Global,
+    matches: &ArgMatches<'_>,
+    texts: &Texts<'_>,
+) -> Result<Option<ViewChoice>, OptionsFault> {
+    match lattice(alloc, matches, texts)? {
         Some(choice) => Ok(Some(ViewChoice::Lattice(choice))),
         None => Ok(matches.get_flag("why").then_some(ViewChoice::Why)),
     }
 }
 
-/// How lattices are printed; None where they are not.
-fn lattice(alloc: Global, matches: &ArgMatches<'_>) -> Result<Option<LatticeChoice>, OptionsFault> {
+/// Returns how lattices are printed; None if they are not.
+fn lattice(
+    alloc: Global,
+    matches: &ArgMatches<'_>,
+    texts: &Texts<'_>,
+) -> Result<Option<LatticeChoice>, OptionsFault> {
     let within = matches.get_one("within");
     let Some(name) = matches.get_str("lattice") else {
         return match within {
-            Some(_) => Err(OptionsFault::wrong(alloc, NAME, NO_LATTICE)),
+            Some(_) => Err(OptionsFault::wrong(alloc, NAME, texts.hint_of(NO_LATTICE))),
             None => Ok(None),
         };
     };

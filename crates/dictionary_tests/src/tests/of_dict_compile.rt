@@ -1,8 +1,8 @@
-//! Small sources with what their images answer, sources that are refused, images that were changed, and what is told on the way.
+//! Small sources and their images, sources that are rejected, changed images, and progress reports.
 mod damaged;
 mod lexicons;
-mod refused;
+mod out_of_memory;
+mod rejected;
 mod sources;
-mod starved;
 mod user;
 mod watched;

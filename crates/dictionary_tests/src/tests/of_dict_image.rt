@@ -1,4 +1,4 @@
-//! Images made by hand: their dictionaries, and their changes with the faults that are told.
+//! Images made by hand and the sample's: their dictionaries, and the errors of changed ones.
 mod changes;
 mod checked_system;
 mod checked_user;
@@ -10,9 +10,10 @@ mod keys;
 mod layout_1;
 mod layout_2;
 mod listed;
+mod lookups;
 mod older_system;
+mod out_of_memory;
 mod plain_reader;
 mod plain_walk;
-mod questions;
 mod ranges;
-mod starved;
+mod sample_parts;

@@ -1,4 +1,4 @@
-//! Small images, and the sections that they are made of.
+//! Small images and their sections.
 mod faults;
 mod frame;
 mod samples;

@@ -1,4 +1,4 @@
-//! Command lines: what is chosen, and what is refused.
+//! Command lines: what they select, and which are rejected.
 
 mod dictc;
 mod endings;

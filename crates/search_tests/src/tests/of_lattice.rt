@@ -1,22 +1,22 @@
 //! The best paths of small texts.
 
-pub(crate) mod asked;
 mod dictionaries;
 mod found;
 mod growths;
 mod many_words;
-mod starved;
+mod out_of_memory;
+pub(crate) mod sample_paths;
 
 use super::all_match;
 use super::sample::{A, AB, B, C, WordRow, has_number, sample_of};
 use found::expect_found;
-use path_search::Search;
-use paths::Path;
+use mj_model::paths::Path;
 use std::alloc::{AllocError, Global};
 use std::process::Abort;
 use std::test::Fail;
+use viterbi::search::Search;
 
-/// Makes a path the best one of a text, by its length and its words.
+/// Sets `path` to the best path of a text of `length` bytes with the words `words`.
 fn fill(
     alloc: Global,
     search: &mut Search,
@@ -28,7 +28,7 @@ fn fill(
     search.fill(&sample, path)
 }
 
-/// No path yet.
+/// Returns an empty path.
 fn no_path(alloc: Global) -> Path {
     Path {
         words: Vec::new(alloc),
@@ -36,10 +36,11 @@ fn no_path(alloc: Global) -> Path {
     }
 }
 
-/// A text by its length and its words, and the numbers of the words of its best path with their total.
+/// The length of a text in bytes and its words; the numbers of the words of its best path and its
+/// total cost.
 type BestRow<'a> = ((u16, &'a [WordRow]), (&'a [usize], i64));
 
-/// Asks a search for the best path of a text.
+/// Checks the best path that `search` finds.
 fn expect_path(
     rt: &(impl Abort + Alloc<A = Global>),
     search: &mut Search,
@@ -53,7 +54,7 @@ fn expect_path(
     Ok(())
 }
 
-/// Asks a new search and this one for the best path of a text, and this one once more for its words one after another.
+/// Checks the best path that a new search and `search` find, and the words that `search` streams.
 fn expect_best(
     rt: &(impl Abort + Alloc<A = Global>),
     search: &mut Search,
@@ -67,10 +68,10 @@ fn expect_best(
 
 const DEAR_AB: WordRow = (0, 2, 900);
 
-// A connection from BOS costs 10, one between words 7, one to EOS 5, and that from BOS to EOS 0.
+// A connection costs 10 after BOS, 7 between words, 5 before EOS, and 0 from BOS to EOS.
 #[rattlefmt::skip]
 static BEST_PATHS: [(&str, BestRow<'static>); 7] = [
-    // (what, ((length, words), (the path's words, total)))
+    // (what, ((length, words), (the path's words, total cost)))
     ("tie_later_place", ((2, &[A, B, AB]), (&[0, 1], 42))),
     ("tie_first_word", ((1, &[A, A]), (&[0], 25))),
     ("tie_last_word_decides", ((3, &[A, B, AB, C]), (&[0, 1, 3], 59))),
@@ -89,7 +90,7 @@ fn best_paths(rt: HostRuntime) -> Result<(), Fail> {
     Ok(())
 }
 
-/// Letters, each a word of word cost 10.
+/// Returns `length` letters, each a word of word cost 10.
 fn letters(alloc: Global, length: u16) -> Result<Vec<WordRow>, AllocError> {
     let mut words = Vec::new(alloc);
     for place in 0..usize::from(length) {
@@ -98,12 +99,13 @@ fn letters(alloc: Global, length: u16) -> Result<Vec<WordRow>, AllocError> {
     Ok(words)
 }
 
-/// How many words a path has, and its total.
+/// Returns the number of words of `path`, and its total cost.
 fn sums_of(path: &Path) -> (usize, i64) {
     (path.words.len(), path.total)
 }
 
-/// Asks for the best path of a text of letters. After a refusal the path is as it was, and the search is asked again.
+/// Checks the best path of a text of letters, with one retry. An allocation failure must leave the
+/// path unchanged.
 fn expect_letters(
     rt: &(impl Abort + Alloc<A = Global>),
     search: &mut Search,
@@ -121,7 +123,7 @@ fn expect_letters(
     Ok(())
 }
 
-// 10 from BOS, 10 a letter, 7 between letters, 5 to EOS; and 0 from BOS to EOS.
+// 10 after BOS, 10 for a letter, 7 between letters, 5 before EOS; 0 from BOS to EOS.
 static LONG_THEN_SHORT: [(u16, i64); 3] = [(1000, 17008), (3, 59), (0, 0)];
 
 #[test]
@@ -134,7 +136,8 @@ fn long_then_short(rt: HostRuntime) -> Result<(), Fail> {
     Ok(())
 }
 
-/// Two letters. The first is `count` words of word cost 10, of which number `cheap` costs 9, and the second is one.
+/// Returns the words of two letters. The first has `count` words of word cost 10, except that
+/// number `cheap` costs 9. The second has one.
 fn two_letters(alloc: Global, count: usize, cheap: usize) -> Result<Vec<WordRow>, AllocError> {
     let mut words = Vec::new(alloc);
     for number in 0..count {
@@ -144,12 +147,12 @@ fn two_letters(alloc: Global, count: usize, cheap: usize) -> Result<Vec<WordRow>
     Ok(words)
 }
 
-/// A name, how many words there are, the number of the cheap one, and the total.
+/// A label, the number of words, the number of the cheap one, and the total cost.
 type ManyRow = (&'static str, usize, usize, i64);
 
 #[rattlefmt::skip]
 static MANY_WORDS: [ManyRow; 7] = [
-    // (what, how many words, the number of the cheap one, total)
+    // (what, number of words, the number of the cheap one, total cost)
     ("one word",                  1,      1,      42),
     ("nine",                      9,      9,      42),
     ("the last of nine is cheap", 9,      8,      41),
@@ -159,7 +162,7 @@ static MANY_WORDS: [ManyRow; 7] = [
     ("one of the first is cheap", 65_600, 60,     41),
 ];
 
-/// Asks for the best path of two letters, the first of many words.
+/// Checks the best path of two letters, of which the first has many words.
 fn expect_many(
     rt: &(impl Abort + Alloc<A = Global>),
     search: &mut Search,

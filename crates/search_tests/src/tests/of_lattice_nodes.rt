@@ -2,13 +2,14 @@
 
 use super::all_match;
 use super::sample::{A, AB, B, C, WordRow, has_number, sample_of};
-use lattice_nodes::{LatticeNode, lattice_nodes, nodes_on_path};
-use path_search::Search;
-use paths::Path;
+use mj_model::paths::Path;
 use std::alloc::{AllocError, Global};
 use std::test::Fail;
+use viterbi::nodes::{LatticeNode, lattice_nodes, mark_nodes_on_path};
+use viterbi::search::Search;
 
-/// The nodes of the lattice of a text, by its length and its words, and for each whether it is on the best path.
+/// Returns the nodes of the lattice of a text of `length` bytes with the words `words`, and for
+/// each whether it is on the best path.
 fn nodes_of(
     alloc: Global,
     length: u16,
@@ -21,18 +22,19 @@ fn nodes_of(
         total: 0,
     };
     Search::new(alloc).fill(&sample, &mut path)?;
-    let best = nodes_on_path(alloc, &nodes, &path.words)?;
+    let best = mark_nodes_on_path(alloc, &nodes, &path.words)?;
     Ok((nodes, best))
 }
 
-/// A node by the number of its word, its total and the least cost of the paths through it, and whether it is on the best path.
+/// A node by the number of its word, its forward cost, the least cost of a path through it, and
+/// whether it is on the best path.
 type NodeRow = (usize, i64, Option<i64>, bool);
 
 fn is_node(node: &LatticeNode, (number, total, through, _is_best): &NodeRow) -> bool {
     has_number(&node.word, number) && node.total == *total && node.through == *through
 }
 
-/// Whether a node is on the best path where its row says so, and nowhere else.
+/// Returns whether `on` is what the test case expects of a node.
 fn is_marked(on: &bool, row: &NodeRow) -> bool {
     *on == row.3
 }
@@ -43,13 +45,14 @@ const DEAR_AB: WordRow = (0, 2, 40);
 
 const ABC: WordRow = (0, 3, 100);
 
-// A connection from BOS costs 10, one between words 7 and one to EOS 5. So `A` has the total 10 + 10 = 20, and `B` after it 20 + 7 + 10 = 37;
-// the path of both costs 37 + 5 = 42.
+// A connection costs 10 after BOS, 7 between words and 5 before EOS. So `A` has the forward cost 10
+// + 10 = 20, `B` after it 20 + 7 + 10 = 37, and the path of both costs 37 + 5 = 42.
 #[rattlefmt::skip]
 static LATTICES: [(&str, u16, &[WordRow], &[NodeRow]); 9] = [
     // (what, length, words, nodes)
     ("one word", 1, &[A], &[(0, 20, Some(25), true)]),
-    // 10 + 27 = 37, and 37 + 5 = 42; of equal costs that path is best whose last differing word has the later place
+    // 10 + 27 = 37, and 37 + 5 = 42. Of equal paths the best is the one whose last differing word
+    // has the later position.
     (
         "words of a place stand together",
         2,

@@ -1,9 +1,9 @@
-//! Rivals of words, by the numbers of nodes that are listed.
+//! Rivals of words, by the numbers of lattice nodes.
 
-use lattice_nodes::LatticeNode;
 use mj_model::{Origin, Word};
-use path_rivals::{Rival, best_rival};
 use std::test::Fail;
+use viterbi::nodes::LatticeNode;
+use viterbi::rivals::{Rival, best_rival};
 
 fn word(place: usize, end: usize) -> Word {
     Word {
@@ -25,7 +25,8 @@ fn node(place: usize, end: usize, through: Option<i64>) -> LatticeNode {
     }
 }
 
-/// The nodes of すもももも in the sample, a word in two parts, one with the boundaries of すもも, and a dead end.
+/// The nodes of すもももも in the sample, a word in two parts, a node with the boundaries of すもも, and a
+/// node that no path goes through.
 #[test]
 fn rivals_of_words(rt: HostRuntime) -> Result<(), Fail> {
     let nodes = [
@@ -40,7 +41,7 @@ fn rivals_of_words(rt: HostRuntime) -> Result<(), Fail> {
     ];
     #[rattlefmt::skip]
     let rows = [
-        // (what, place, end, the rival's number and cost)
+        // (what, position, end, the rival's number and cost)
         ("one that ends before it",          0, 9,  Some((1, 200))),
         ("one that ends behind it",          9, 12, Some((4, 152))),
         ("one that begins before it",       12, 15, Some((4, 152))),

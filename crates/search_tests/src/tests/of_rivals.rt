@@ -1,14 +1,14 @@
-//! The rivals of the words of small texts' best paths.
+//! The rivals of the words of the best paths of small texts.
 
 use super::all_match;
 use super::sample::{A, AB, B, C, WordRow, has_number, sample_of};
-use path_rivals::{RivalPath, Rivals, STEPS_MAX, Step, rivals_of};
-use path_search::Search;
-use paths::Path;
+use mj_model::paths::Path;
 use std::alloc::{AllocError, Global};
 use std::test::Fail;
+use viterbi::rivals::{PathStep, RivalPath, Rivals, STEPS_MAX, rivals_of};
+use viterbi::search::Search;
 
-/// The rivals of a text's best path, by its length and its words.
+/// Returns the rivals of the best path of a text of `length` bytes with the words `words`.
 fn rivals_in(alloc: Global, length: u16, words: &[WordRow]) -> Result<Rivals, AllocError> {
     let sample = sample_of(alloc, length, words)?;
     let mut path = Path {
@@ -19,7 +19,7 @@ fn rivals_in(alloc: Global, length: u16, words: &[WordRow]) -> Result<Rivals, Al
     rivals_of(alloc, &sample, &path.words)
 }
 
-/// The rival of a word of the best path, by its number.
+/// Returns the rival of word `number` of the best path.
 fn rival_of(
     alloc: Global,
     rivals: &Rivals,
@@ -28,13 +28,13 @@ fn rival_of(
     rivals.rival(alloc, number)
 }
 
-/// A step by the number of its word, its connection cost and its total.
+/// A step by the number of its word, its connection cost and its forward cost.
 type StepRow = (usize, i64, i64);
 
-/// A rival by its cost, whether its steps begin and end at the best path, and its steps.
+/// A rival by its cost, whether its steps start and end at the best path, and its steps.
 type RivalRow = (i64, bool, bool, &'static [StepRow]);
 
-fn is_step(step: &Step, (number, connection, total): &StepRow) -> bool {
+fn is_step(step: &PathStep, (number, connection, total): &StepRow) -> bool {
     has_number(&step.word, number) && step.connection == *connection && step.total == *total
 }
 
@@ -53,8 +53,8 @@ const DEAR_BC: WordRow = (1, 3, 40);
 
 const ABC: WordRow = (0, 3, 10);
 
-// A connection from BOS costs 10, one between words 7 and one to EOS 5. So `A` has the total 10 + 10 = 20, and `B` after it 20 + 7 + 10 = 37;
-// the path of both costs 37 + 5 = 42.
+// A connection costs 10 after BOS, 7 between words and 5 before EOS. So `A` has the forward cost 10
+// + 10 = 20, `B` after it 20 + 7 + 10 = 37, and the path of both costs 37 + 5 = 42.
 #[rattlefmt::skip]
 static RIVALS: [(&str, u16, &[WordRow], &[(StepRow, Option<RivalRow>)]); 9] = [
     // (what, length, words, each word of the best path and its rival)
@@ -122,7 +122,7 @@ static RIVALS: [(&str, u16, &[WordRow], &[(StepRow, Option<RivalRow>)]); 9] = [
     ("empty text", 0, &[], &[]),
 ];
 
-/// Whether this is the rival of a word of the best path, or there is none.
+/// Returns whether word `number` of the best path has the rival `wanted`, or none.
 fn has_rival(
     alloc: Global,
     rivals: &Rivals,
@@ -136,7 +136,8 @@ fn has_rival(
     })
 }
 
-/// Whether these are the words of a best path with the rival of each, and no rival is behind the last.
+/// Returns whether `wanted` are the words of the best path with their rivals, and no rival follows
+/// the last.
 fn are_rivals(
     alloc: Global,
     rivals: &Rivals,
@@ -163,7 +164,7 @@ fn rivals(rt: HostRuntime) -> Result<(), Fail> {
     Ok(())
 }
 
-/// Words of one byte each before a place, and further ones.
+/// Returns `count` words of one byte each, then `further`.
 fn letters_with(
     alloc: Global,
     count: u16,
@@ -177,10 +178,11 @@ fn letters_with(
     Ok(words)
 }
 
-/// The cost of a rival, whether it begins and ends at the best path, how many steps it has, and the totals of the first and the last.
+/// The cost of a rival, whether it starts and ends at the best path, the number of its steps, and
+/// the forward costs of the first and the last.
 type SumsRow = (i64, bool, bool, usize, i64, i64);
 
-/// Whether a rival has these sums.
+/// Returns whether `rival` has these sums.
 fn has_sums(rival: &RivalPath, (cost, begins, ends, count, first, last): &SumsRow) -> bool {
     let (Some(of_first), Some(of_last)) = (rival.steps.first(), rival.steps.last()) else {
         return false;
@@ -190,10 +192,11 @@ fn has_sums(rival: &RivalPath, (cost, begins, ends, count, first, last): &SumsRo
     is_cut && rival.cost == *cost && of_first.total == *first && of_last.total == *last
 }
 
-/// A name, the length of a text, how many letters it has and further words, the number of a word, and its rival.
+/// A label, the length of a text, the number of its letters, further words, the number of a word,
+/// and its rival.
 type CutOffRow<'a> = (&'a str, u16, u16, &'a [WordRow], usize, SumsRow);
 
-/// Whether a word in a text of letters has such a rival.
+/// Returns whether a word in a text of letters has this rival.
 fn is_cut_off(
     alloc: Global,
     (_what, length, letters, further, number, wanted): &CutOffRow<'_>,
@@ -206,14 +209,21 @@ fn is_cut_off(
     })
 }
 
-// Letter k after the first has the total 20 + 17 * k. A word in place of 40 letters: the first of them takes its place, and 32 stand behind it.
-// Two words in place of 34 letters and two words: one of these takes the place of the second, and 32 letters stand before it.
+// Letter k after the first has the forward cost 20 + 17 * k.
+//
+// First case: a word has 40 letters as its rival. The first letter and the 32 after it are listed.
+//
+// Second case: two words have 34 letters and two words as their rival. Listed are the two words and
+// the 32 letters before them.
 #[rattlefmt::skip]
 static CUT_OFF: [CutOffRow<'static>; 3] = [
-    // (what, length, letters, further words, the word's number, (the rival's cost, whether it begins and ends, steps, totals of the first and the last))
-    ("40 letters for a word",           40, 40, &[(0, 40, 10)], 0, (688, true,  false, 33, 20, 564)),
-    ("34 letters before another word",  37, 34, &[(0, 35, 10), (35, 37, 10), (34, 36, 10), (36, 37, 10)], 1, (620, false, true, 34, 54, 615)),
-    ("33 letters for a word",           33, 33, &[(0, 33, 10)], 0, (569, true,  true,  33, 20, 564)),
+    // (what, length, letters, further words, the word's number,
+    //     (the rival's cost, whether it starts and ends, steps, first and last forward cost))
+    ("40 letters for a word", 40, 40, &[(0, 40, 10)], 0, (688, true,  false, 33, 20, 564)),
+    ("34 letters before another word", 37, 34,
+        &[(0, 35, 10), (35, 37, 10), (34, 36, 10), (36, 37, 10)], 1,
+        (620, false, true, 34, 54, 615)),
+    ("33 letters for a word", 33, 33, &[(0, 33, 10)], 0, (569, true,  true,  33, 20, 564)),
 ];
 
 #[test]

@@ -1,10 +1,10 @@
-//! Words of places, with their blanks and categories.
+//! Words at a position, with their blanks and categories.
 
 mod characters;
+mod cost_cache;
 mod expected_words;
-mod in_turn;
 mod layouts;
-mod near_costs;
+mod out_of_memory;
 mod overlays;
-mod starved;
+mod scan_cache;
 mod words;

@@ -6,9 +6,9 @@ ghost use Rattle.search_tests.specs.Sample.{lies_at, numbered, sample_connection
 use lattice::WordSource;
 use mj_model::{Origin, Word};
 use std::alloc::{AllocError, Global};
-use word_lookup::{EntryList, LastRuns, Surface};
+use word_lookup::{EntryList, Surface};
 
-/// A text by its length and its words, which are numbered by their order.
+/// A text by its length in bytes and its words, which are numbered by their order.
 #[derive(Drop)]
 pub struct Sample {
     pub length: usize,
@@ -18,29 +18,35 @@ pub struct Sample {
 impl WordSource for Sample {
     type Words = Word;
 
-    // A surface has one word.
+    // Each surface has one word.
     ghost words_in = { λ word. word ∷ [] };
 
-    ghost says = { λ s. record {
+    ghost searched_text = { λ s. record {
       text_length = s.length;
       words = sample_words s.words.items 0 s.length;
       surface_words = words_numbered s.words.items;
       connection = sample_connection;
       is_place = λ p. Unit {0};
       is_pair = λ r l. Unit {0};
-      is_blank_run = λ run. Unit {0};
-      is_character_run = λ run. Unit {0};
-      is_kept = λ p last. Unit {0};
     } };
+
+    // A search scans nothing of the text.
+    type Cursor = ();
+
+    ghost is_cursor = { λ s cursor. Unit {0} };
+
+    ghost is_scanned = { λ s place cursor. Unit {0} };
 
     fn length(&self) -> usize {
         self.length
     }
 
+    fn cursor(&self) {}
+
     fn surfaces_at(
         &self,
         place: usize,
-        _last: &mut LastRuns,
+        _cursor: &mut (),
         out: &mut Vec<Surface>,
     ) -> Result<(), AllocError> {
         let before = out.len();
@@ -62,11 +68,11 @@ impl WordSource for Sample {
         *words
     }
 
-    fn alone(&self, surface: &Surface, _i: u32) -> Surface {
+    fn single_word_surface(&self, surface: &Surface, _i: u32) -> Surface {
         *surface
     }
 
-    // The left id itself.
+    // The left id is all that the costs depend on.
     type Costs = u16;
 
     ghost costs_in = { λ left right. Some (sample_connection right left) };
@@ -85,7 +91,8 @@ impl WordSource for Sample {
     }
 }
 
-/// Whether the word begins at the place, is not empty and ends in the text.
+/// Returns whether the word starts at `place`, is not empty, ends within the text, and has a word
+/// cost of at most three digits.
 fn lies_here(length: usize, place: usize, word: &Word) -> bool
     ensures { result ≡ lies_at length place word.now }
 {
@@ -96,7 +103,7 @@ fn lies_here(length: usize, place: usize, word: &Word) -> bool
         && word.cost < 1000
 }
 
-/// A word by its number in the list.
+/// Returns `word` with the number `number` as its origin.
 fn by_number(number: usize, word: &Word) -> Word
     ensures { result ≡ numbered number word.now }
 {
@@ -109,7 +116,8 @@ fn by_number(number: usize, word: &Word) -> Word
     }
 }
 
-/// Adds the surface of the word if it lies at the place, and answers whether there was memory for it.
+/// Appends the surface of the word if it lies at `place`. Returns false if an allocation failed or
+/// `number` exceeds 32 bits.
 fn add_sample(
     length: usize,
     place: usize,
@@ -119,16 +127,17 @@ fn add_sample(
 ) -> bool
     ensures added { IsTrue result
         → out.new.items ≡ out.old.items ++ sample_surface number length place word.now }
-    ensures kept { IsFalse result → out.new.items ≡ out.old.items }
+    ensures unchanged { IsFalse result → out.new.items ≡ out.old.items }
 {
     !lies_here(length, place, word) || add_surface(number, word, out)
 }
 
-/// Adds the surface of a word, and answers whether there was memory for it and a number of 32 bits.
+/// Appends the surface of a word. Returns false if an allocation failed or `number` exceeds 32
+/// bits.
 fn add_surface(number: usize, word: &Word, out: &mut Vec<Surface>) -> bool
     ensures added { IsTrue result
         → out.new.items ≡ out.old.items ++ surface_of number word.now ∷ [] }
-    ensures kept { IsFalse result → out.new.items ≡ out.old.items }
+    ensures unchanged { IsFalse result → out.new.items ≡ out.old.items }
 {
     let Ok(first) = u32::try_from(number) else {
         return false;
@@ -144,7 +153,7 @@ fn add_surface(number: usize, word: &Word, out: &mut Vec<Surface>) -> bool
     out.push(surface).is_ok()
 }
 
-/// A word by the byte offsets of its beginning and its end and by its word cost.
+/// A word by the byte offsets of its start and end and by its word cost.
 pub type WordRow = (usize, usize, i16);
 
 pub const A: WordRow = (0, 1, 10);
@@ -155,7 +164,7 @@ pub const C: WordRow = (2, 3, 10);
 
 pub const AB: WordRow = (0, 2, 27);
 
-/// A text of words of left id and right id 1.
+/// Returns a text whose words have left id 1 and right id 1.
 pub fn sample_of(alloc: Global, length: u16, entries: &[WordRow]) -> Result<Sample, AllocError>
     ensures { IfOk result (λ s. s.length ≡ length) }
 {
@@ -177,7 +186,7 @@ pub fn sample_of(alloc: Global, length: u16, entries: &[WordRow]) -> Result<Samp
     })
 }
 
-/// Whether a word of a text has this number in the list.
+/// Returns whether `word` has the number `number` in the list.
 pub fn has_number(word: &Word, number: &usize) -> bool {
     match word.origin {
         Origin::Known { dict, token } => dict == *number && token == 0,

@@ -1,13 +1,15 @@
-//! Rows of cells, and refused growths. A growth is refused where the tests run under `tests/out_of_memory/run.py`,
-//! which looks for the line that says so.
+//! Cells that grow, and allocation failures.
+//!
+//! Allocations fail under `tests/out_of_memory/run.py`, which expects the line `rejected` on
+//! standard error.
 use cells::{CELLS_MAX, Cells};
 use std::alloc::{Alloc, AllocError, Global};
 use std::io::Eprint;
 use std::process::Abort;
 use std::test::Fail;
-use test_words::again;
+use test_support::again;
 
-/// The cell, or nothing past the end.
+/// Returns cell `i`, or `None` past the end.
 pub fn cell(cells: &Cells, i: usize) -> Option<(i32, i32)> {
     if i < cells.len() {
         Some(cells.get(i))
@@ -16,20 +18,21 @@ pub fn cell(cells: &Cells, i: usize) -> Option<(i32, i32)> {
     }
 }
 
-/// Sets the cell, if it is there.
+/// Sets cell `i`, if it exists.
 pub fn put(cells: &mut Cells, i: usize, base: i32, check: i32) {
     if i < cells.len() {
         cells.set(i, base, check);
     }
 }
 
-/// Grows to `n` cells, or to as many as there are.
+/// Grows to `n` cells, within the limit. Never shrinks.
 pub fn grow(cells: &mut Cells, n: usize) -> Result<(), AllocError> {
     let n = n.min(CELLS_MAX).max(cells.len());
     cells.grow(n)
 }
 
-/// Whether there are `n` cells, the first `count` as they were set, with base `i + 1` and check 7, and the others free.
+/// Returns whether there are `n` cells: the first `count` with base `i + 1` and check 7, the others
+/// free.
 fn holds(cells: &Cells, count: usize, n: usize) -> bool {
     if cells.len() != n {
         return false;
@@ -47,12 +50,14 @@ fn holds(cells: &Cells, count: usize, n: usize) -> bool {
     true
 }
 
-/// So many cells. What is refused once is asked again.
+/// Returns `n` cells, with one retry.
 pub fn new_cells(rt: &(impl Alloc<A = Global> + Eprint), n: usize) -> Result<Cells, Fail> {
     Ok(again!(rt, Err(_), Cells::new(rt.alloc(), n.clamp(1, CELLS_MAX)))?)
 }
 
-/// Grows cells of which the first `count` were set, and the others are free. After a refusal they are still so.
+/// Grows to `n` cells, with one retry. An allocation failure must leave the cells unchanged.
+///
+/// The first `count` cells have been set, and the others are free.
 fn grow_again(
     rt: &(impl Abort + Eprint),
     cells: &mut Cells,
@@ -68,10 +73,10 @@ fn grow_again(
     Ok(())
 }
 
-/// What the cells hold.
+/// The expected cells after growing.
 #[rattlefmt::skip]
 static GROWN: [(usize, Option<(i32, i32)>); 7] = [
-    // (cell, what it holds)
+    // (cell, its base and check)
     (0, Some((0, -1))),
     (1, Some((0, -1))),
     (2, Some((0, -1))),
@@ -81,7 +86,7 @@ static GROWN: [(usize, Option<(i32, i32)>); 7] = [
     (6, None),
 ];
 
-/// Asks for what the cells hold.
+/// Checks the cells of `GROWN`.
 fn expect_grown(rt: &impl Abort, cells: &Cells) {
     for (i, expected) in &GROWN {
         assert!(rt; cell(cells, *i) == *expected, "{i}");
@@ -98,7 +103,7 @@ fn grown_cells(rt: HostRuntime) -> Result<(), Fail> {
     Ok(())
 }
 
-/// Cells with the ends of the numbers.
+/// Cells with the least and the greatest numbers.
 #[rattlefmt::skip]
 static ENDS: [(usize, i32, i32); 3] = [
     // (cell, base, check)
@@ -107,7 +112,7 @@ static ENDS: [(usize, i32, i32); 3] = [
     (2, 2_147_483_647, -2_147_483_648),
 ];
 
-/// Asks for those cells.
+/// Checks the cells of `ENDS`.
 fn expect_ends(rt: &impl Abort, cells: &Cells) {
     for (i, base, check) in &ENDS {
         assert_eq!(rt; cell(cells, *i), Some((*base, *check)), "{i}");
@@ -124,7 +129,7 @@ fn ends_of_the_numbers(rt: HostRuntime) -> Result<(), Fail> {
     Ok(())
 }
 
-/// Sets the last cell, and grows by one, which is free.
+/// Sets the last cell and grows by one. Returns whether the new cell is free.
 fn add_one(cells: &mut Cells, base: i32) -> Result<bool, AllocError> {
     let length = cells.len();
     put(cells, length.saturating_sub(1), base, -5);
@@ -132,7 +137,7 @@ fn add_one(cells: &mut Cells, base: i32) -> Result<bool, AllocError> {
     Ok(cells.len() == length.saturating_add(1) && cell(cells, length) == Some((0, -1)))
 }
 
-/// Asks for the numbers of 999 cells.
+/// Checks the numbers of 999 cells.
 fn expect_numbers(rt: &impl Abort, cells: &Cells) {
     for i in 0..999 {
         assert_eq!(rt; cell(cells, i), Some((i as i32 + 2, -5)), "{i}");
@@ -183,6 +188,6 @@ fn blocks_are_given_back(rt: HostRuntime) -> Result<(), Fail> {
     Ok(())
 }
 
-/// Takes no block: what a test leaves by itself.
+/// Allocates nothing, so that it shows what every test allocates.
 #[test]
 fn no_cells() {}

@@ -1,7 +1,7 @@
-//! Rows of `char.def` and `unk.def`.
+//! `char.def` and `unk.def`.
 
 mod chars;
 mod ranges;
-mod refused;
+mod rejected;
 pub mod samples;
 mod unk;

@@ -1,4 +1,4 @@
-//! Rows of insertions and lookups, and refused growths. A growth is refused where the tests run under `tests/out_of_memory/run.py`.
+//! Insertions, lookups, and allocation failures, which happen under `tests/out_of_memory/run.py`.
 mod access;
 mod growing;
 mod grown_cells;
@@ -7,9 +7,9 @@ mod relocated;
 use self::access::{has_hits, has_value, insert, inserts};
 use double_array::{CellRead, DaFault, DoubleArray, Inserted};
 use std::test::Fail;
-use test_words::{FaultRow, expect_told};
+use test_support::text::{FaultRow, expect_printed};
 
-/// Keys that are inserted one after another.
+/// Keys in the order of their insertion.
 #[rattlefmt::skip]
 static INSERTED: [(&[u8], u32, Option<u32>); 3] = [
     // (key, value, the value before)
@@ -29,10 +29,10 @@ static VALUES: [(&[u8], Option<u32>); 5] = [
     (b"", None),
 ];
 
-/// Texts with the keys that begin them.
+/// Texts with the keys that are prefixes of them.
 #[rattlefmt::skip]
 static HITS: [(&[u8], &[(usize, u32)], u64); 5] = [
-    // (text, the keys that begin it: length and value, the root and the steps and values asked for)
+    // (text, its prefixes: length and value, the number of cells that are read)
     (b"abc", &[(1, 9), (2, 7)], 6),
     (b"ab", &[(1, 9), (2, 7)], 5),
     (b"ac", &[(1, 9)], 4),
@@ -65,7 +65,7 @@ fn the_empty_array(rt: HostRuntime) -> Result<(), Fail> {
     Ok(())
 }
 
-/// Keys with the ends of the numbers.
+/// Keys with the least and the greatest bytes and values.
 #[rattlefmt::skip]
 static ENDS: [(&[u8], u32); 4] = [
     // (key, value)
@@ -87,17 +87,17 @@ fn ends_of_the_numbers(rt: HostRuntime) -> Result<(), Fail> {
     Ok(())
 }
 
-/// Faults of insertions.
+/// Errors of insertions.
 #[rattlefmt::skip]
 static FAULTS: [FaultRow<DaFault>; 2] = [
-    // (fault, code, name, text)
+    // (error, code, name, text)
     (DaFault::Full,   "X1",     "Full",   "X1 Full"),
     (DaFault::Memory, "Memory", "Memory", "Memory"),
 ];
 
 #[test]
 fn words_of_faults(rt: HostRuntime) -> Result<(), Fail> {
-    expect_told(rt.alloc(), &FAULTS)
+    expect_printed(rt.alloc(), &FAULTS)
 }
 
 #[test]

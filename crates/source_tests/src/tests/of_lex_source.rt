@@ -1,10 +1,10 @@
-//! Rows of lexicons, fields and numbers.
+//! Lexicons, fields and numbers.
 pub mod records;
-mod refused;
+mod rejected;
 mod sorted;
 
 use super::faults::{File, expect_faults};
-use lex_source::{FilledLines, Words, append_field, context_id, cost, field, lines, number};
+use lex_source::{NonblankLines, Words, append_field, context_id, cost, field, lines, number};
 use mj_model::SourceKind::SurfaceTooLong;
 use mj_model::{Record, SourceFault};
 use std::alloc::{AllocError, Global};
@@ -12,7 +12,7 @@ use std::process::Abort;
 use std::string::String;
 use std::test::Fail;
 
-/// Sources with their lines.
+/// Sources and their lines.
 #[rattlefmt::skip]
 static LINES: [(&str, &str, &str, u64); 9] = [
     // (what, bytes, lines without their numbers, the last number)
@@ -27,7 +27,7 @@ static LINES: [(&str, &str, &str, u64); 9] = [
     ("a CR inside", "a\rb\n", "a\rb|", 1),
 ];
 
-/// The lines of a source, each with a bar behind it, and the last one's number.
+/// Returns the lines of a source, each followed by a bar, and the number of the last line.
 fn marked_lines(alloc: Global, bytes: &[u8]) -> Result<(Vec<u8>, u64), AllocError> {
     let mut marked = Vec::new(alloc);
     let mut last_number = 0;
@@ -39,7 +39,7 @@ fn marked_lines(alloc: Global, bytes: &[u8]) -> Result<(Vec<u8>, u64), AllocErro
     Ok((marked, last_number))
 }
 
-/// Whether a source has these lines, and the last one this number.
+/// Returns whether a source has the lines `expected`, and `last` as the number of the last line.
 fn has_lines(alloc: Global, bytes: &str, expected: &str, last: u64) -> Result<bool, AllocError> {
     let (marked, last_number) = marked_lines(alloc, bytes.as_bytes())?;
     Ok(marked.as_slice() == expected.as_bytes() && last_number == last)
@@ -53,29 +53,29 @@ fn source_lines(rt: HostRuntime) -> Result<(), Fail> {
     Ok(())
 }
 
-/// Appends the words of a line, each with a comma behind it.
-fn append_words(told: &mut Vec<u8>, line: &[u8]) -> Result<(), AllocError> {
+/// Appends the words of `line`, each followed by a comma.
+fn append_words(reported: &mut Vec<u8>, line: &[u8]) -> Result<(), AllocError> {
     for word in Words::new(line) {
-        told.extend_from_slice(word)?;
-        told.push(b',')?;
+        reported.extend_from_slice(word)?;
+        reported.push(b',')?;
     }
     Ok(())
 }
 
 #[test]
 fn filled_lines_and_words(rt: HostRuntime) -> Result<(), Fail> {
-    let mut told = Vec::new(rt.alloc());
+    let mut reported = Vec::new(rt.alloc());
     let mut last_number = 0;
-    for (line_number, line) in FilledLines::new(b"\n 2\t3 \r\n \t\n0 2  100\n") {
-        append_words(&mut told, line)?;
+    for (line_number, line) in NonblankLines::new(b"\n 2\t3 \r\n \t\n0 2  100\n") {
+        append_words(&mut reported, line)?;
         last_number = line_number;
     }
-    assert_eq!(rt; told.as_slice(), b"2,3,0,2,100,".as_slice());
+    assert_eq!(rt; reported.as_slice(), b"2,3,0,2,100,".as_slice());
     assert_eq!(rt; last_number, 4);
     Ok(())
 }
 
-/// Whether a field that may be missing is this one.
+/// Returns whether `found` is `expected`.
 pub fn is_text(found: &Option<String>, expected: Option<&str>) -> bool {
     match found {
         Some(text) => expected == Some(text.as_str()),
@@ -114,10 +114,10 @@ fn quoted_fields(rt: HostRuntime) -> Result<(), Fail> {
     Ok(())
 }
 
-/// Fields that are appended.
+/// Fields that are appended to an output.
 #[rattlefmt::skip]
 static APPENDED: [(&str, usize, bool, &str); 5] = [
-    // (line, number of the field, whether it is there, what stands in the output)
+    // (line, number of the field, whether it exists, the output)
     ("x, \"y \"\"z\"w,*", 0, true, ">x"),
     ("x, \"y \"\"z\"w,*", 1, true, ">y \"z"),
     ("x, \"y \"\"z\"w,*", 2, true, ">*"),
@@ -125,7 +125,7 @@ static APPENDED: [(&str, usize, bool, &str); 5] = [
     ("", 0, true, ">"),
 ];
 
-/// What stands in an output that had `>`, with a field of a line appended, and whether the field is there.
+/// Appends field `n` of `line` to `>`. Returns the output and whether the field exists.
 fn appended(alloc: Global, line: &str, n: usize) -> Result<(Vec<u8>, bool), AllocError> {
     let mut out = Vec::from_slice(alloc, b">")?;
     let there = append_field(&mut out, line, n)?;
@@ -147,7 +147,7 @@ fn bad_lexicon_lines(rt: HostRuntime) -> Result<(), Fail> {
     expect_faults(&rt, File::OtherLexicon)
 }
 
-/// What a lexicon of a line with a surface of so many bytes says.
+/// Reads a lexicon of one line whose surface has `length` bytes.
 fn read_long(alloc: Global, length: usize) -> Result<Result<u64, SourceFault>, AllocError> {
     let mut bytes = Vec::from_elem(alloc, b'a', length)?;
     bytes.extend_from_slice(b",1,1,5,X")?;
@@ -203,7 +203,7 @@ static IDS: [(&str, Option<u16>); 4] = [
     ("-0",    Some(0)),      ("-1",    None),
 ];
 
-/// Asks for the number of each text.
+/// Checks the number of each text.
 fn expect_numbers(rt: &impl Abort, rows: &[(&str, Option<i32>)]) {
     for (text, expected) in rows {
         assert_eq!(rt; number(text.as_bytes()), *expected, "{text}");

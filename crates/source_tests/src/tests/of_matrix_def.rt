@@ -1,6 +1,6 @@
-//! Rows of connection costs.
+//! Connection costs.
 mod pieces;
-pub mod refused;
+pub mod rejected;
 
 use super::faults::{Read, read_again};
 use matrix_def::{Matrix, read_matrix};
@@ -9,17 +9,28 @@ use std::alloc::{Alloc, Global};
 use std::io::Eprint;
 use std::test::Fail;
 
-/// The table of a `matrix.def`.
+/// Reads the `matrix.def` `bytes`.
 pub fn table_of(alloc: Global, bytes: &[u8]) -> Result<Matrix, SourceFault> {
     read_matrix(alloc, bytes)
 }
 
-/// What a `matrix.def` says. What is refused memory once is asked again.
+/// Reads the `matrix.def` `bytes`, with one retry after an allocation failure.
 pub fn matrix_of(rt: &(impl Alloc<A = Global> + Eprint), bytes: &[u8]) -> Read<Matrix> {
     read_again(rt, bytes, table_of)
 }
 
-/// The cost of a pair of ids, if they lie within the sizes.
+/// Reads the `matrix.def` `bytes` in two pieces of the same length.
+fn of_halves(alloc: Global, bytes: &[u8]) -> Result<Matrix, SourceFault> {
+    let middle = bytes.len() / 2;
+    pieces::of_two(alloc, &bytes[..middle], &bytes[middle..])
+}
+
+/// Reads the `matrix.def` `bytes` in two pieces, with one retry after an allocation failure.
+fn matrix_of_halves(rt: &(impl Alloc<A = Global> + Eprint), bytes: &[u8]) -> Read<Matrix> {
+    read_again(rt, bytes, of_halves)
+}
+
+/// Returns the cost of a pair of ids, or `None` if one is out of range.
 fn cost_of(matrix: &Matrix, right: u16, left: u16) -> Option<i16> {
     if matrix.is_valid(left, right) {
         Some(matrix.cost(right, left))
@@ -28,10 +39,10 @@ fn cost_of(matrix: &Matrix, right: u16, left: u16) -> Option<i16> {
     }
 }
 
-/// The costs of an asymmetric table.
+/// The costs of an asymmetric matrix.
 #[rattlefmt::skip]
 static COSTS: [(u16, u16, Option<i16>); 8] = [
-    // (right id before, left id behind, cost)
+    // (right id of the preceding word, left id of the following word, cost)
     (0, 0, Some(0)), (0, 1, Some(0)), (0, 2, Some(100)), (0, 3, None),
     (1, 0, Some(9)), (1, 1, Some(0)), (1, 2, Some(0)),   (2, 0, None),
 ];
@@ -47,7 +58,7 @@ fn asymmetric_matrix(rt: HostRuntime) -> Result<(), Fail> {
     Ok(())
 }
 
-/// Tables with one cost. Of some the last line has no end.
+/// Matrices with one cost. In some the last line has no line feed.
 #[rattlefmt::skip]
 static LISTED: [(&str, &str, i16); 13] = [
     // (what, matrix.def, its one cost)
@@ -66,7 +77,7 @@ static LISTED: [(&str, &str, i16); 13] = [
     ("a row behind a long one",      "1 1\n00 00 00005   \n0  0   6",                 6),
 ];
 
-/// The cost of 0 and 0 in a table.
+/// Returns the cost of the ids 0 and 0 in a matrix.
 fn first_cost(alloc: Global, text: &str) -> Result<Option<i16>, SourceFault> {
     Ok(cost_of(&table_of(alloc, text.as_bytes())?, 0, 0))
 }

@@ -1,4 +1,4 @@
-//! Readers and writers that are counted: what they hand on, and what they count. And what is told of faults.
+//! Counted readers and writers: what they pass on, and what they count. Also the texts of errors.
 mod device;
 mod faults;
 mod reading;

@@ -1,17 +1,18 @@
-//! The bound on reads. That of the public calls is so great that no test reaches it, so this asks the loop itself.
+//! The limit on the number of reads. The limit of the public calls is too large for a test to
+//! reach, so this one calls the loop itself.
 
-use line_stream::run_over;
-use mj_model::{Counted, RunFault, sample};
+use line_stream::{StreamFault, run_over};
+use mj_model::{Counted, sample};
 use out_format::Format;
+use out_format::words_printer::{LineBuffers, WordsPrinter};
 use std::alloc::Global;
 use std::io;
 use std::io::Read;
 use std::process::Abort;
 use std::test::Fail;
-use test_samples::{overlay, system_dict};
-use words_printer::{LineMemory, WordsPrinter};
+use test_support::samples::{overlay, system_dict};
 
-/// Gives a byte a read.
+/// A reader that returns one byte in each read.
 #[derive(Drop)]
 struct ByteByByte<'a> {
     bytes: &'a [u8],
@@ -27,13 +28,13 @@ impl Read for ByteByByte<'_> {
     }
 }
 
-/// Asks for the answer of a run over a text with at most 4 reads, and for its first line's output.
+/// Checks the result of a run over `text` with at most 4 reads, and the output of its first line.
 fn expect_bounded(
     rt: &(impl Abort + Alloc<A = Global>),
     format: &Format,
     what: &str,
     text: &str,
-    answer: Result<u64, RunFault>,
+    answer: Result<u64, StreamFault>,
 ) -> Result<(), Fail> {
     let system = system_dict(rt.alloc(), &sample())?;
     let printer = WordsPrinter {
@@ -41,7 +42,7 @@ fn expect_bounded(
         dictionaries: overlay(&system, &[])?,
         format,
     };
-    let mut kept = LineMemory::new(rt.alloc());
+    let mut kept = LineBuffers::new(rt.alloc());
     let mut input = Counted::new(ByteByByte {
         bytes: text.as_bytes(),
     });
@@ -56,9 +57,9 @@ fn expect_bounded(
 }
 
 #[rattlefmt::skip]
-static BOUND_ON_READS: [(&str, &str, Result<u64, RunFault>); 2] = [
-    // (what, text, answer)
-    ("no end in 4 reads",  "ab\ncd\n", Err(RunFault::InputTooLong(2))),
+static BOUND_ON_READS: [(&str, &str, Result<u64, StreamFault>); 2] = [
+    // (what, text, result)
+    ("no end in 4 reads",  "ab\ncd\n", Err(StreamFault::InputTooLong(2))),
     ("the end at the 4th", "ab\n",     Ok(1)),
 ];
 

@@ -1,7 +1,7 @@
-//! Formats' texts that read, with what they print, and the first faults of those that don't.
+//! Texts of formats: what valid ones print, and the first error of invalid ones.
 
+mod out_of_memory;
 mod printed;
-mod starved;
 
 use mj_model::{Sources, sample};
 use out_format::FormatKind::{BadEscape, BadIndex, BadItem};
@@ -11,23 +11,23 @@ use std::alloc::Global;
 use std::process::Abort;
 use std::string::String;
 use std::test::Fail;
-use test_samples::run_in;
+use test_support::samples::run_in;
 
-/// A name, the node's text, and the byte and the kind of its first fault.
+/// A label, the node's text, and the position in bytes and the kind of its first error.
 type NodeRow = (&'static str, &'static str, Option<(usize, FormatKind)>);
 
 fn expect_nodes(rt: &(impl Abort + Alloc<A = Global>), rows: &[NodeRow]) {
     for (what, node, expected) in rows {
         let part = FormatPart::Node;
         let fault = expected.map(|(at, kind)| FormatFault::Bad { part, at, kind });
-        let told = Format::parse(rt.alloc(), node, None, "", "").err();
-        assert_eq!(rt; told, fault, "{what}");
+        let reported = Format::parse(rt.alloc(), node, None, "", "").err();
+        assert_eq!(rt; reported, fault, "{what}");
     }
 }
 
 #[rattlefmt::skip]
 static NODE_TEXTS: [NodeRow; 38] = [
-    // (what, the node's text, the byte of its first fault)
+    // (what, the node's text, its first error)
     ("no text", "", None),
     ("plain text", "名詞/", None),
     ("every item", "%m%M%pS%H%f[0]%c%s%S%L%phl%phr%pC%pn%pc%pl%pL%ps%pe%t%%", None),
@@ -73,7 +73,7 @@ fn node_texts(rt: HostRuntime) {
     expect_nodes(&rt, &NODE_TEXTS);
 }
 
-/// A node, unk, bos and eos.
+/// The texts of node, unk, bos and eos.
 type Texts = (
     &'static str,
     Option<&'static str>,
@@ -81,20 +81,20 @@ type Texts = (
     &'static str,
 );
 
-/// A name, the four texts, and the part, the byte and the kind of their first fault.
+/// A label, the four texts, and the part, the position in bytes and the kind of their first error.
 type PartsRow = (&'static str, Texts, Option<(FormatPart, usize, FormatKind)>);
 
 fn expect_parts(rt: &(impl Abort + Alloc<A = Global>), rows: &[PartsRow]) {
     for (what, (node, unk, bos, eos), expected) in rows {
         let fault = expected.map(|(part, at, kind)| FormatFault::Bad { part, at, kind });
-        let told = Format::parse(rt.alloc(), node, *unk, bos, eos).err();
-        assert_eq!(rt; told, fault, "{what}");
+        let reported = Format::parse(rt.alloc(), node, *unk, bos, eos).err();
+        assert_eq!(rt; reported, fault, "{what}");
     }
 }
 
 #[rattlefmt::skip]
 static PARTS_OF_FORMATS: [PartsRow; 14] = [
-    // (what, node, unk, bos and eos, the first fault)
+    // (what, node, unk, bos and eos, the first error)
     ("items of the line", ("", None, "%S%L%%", "%S%L%pc%%"), None),
     ("items of words before the first", ("", None, "%m", ""), Some((Bos, 0, BadItem))),
     ("the cost before the first word", ("%m", None, "%pc", ""), Some((Bos, 0, BadItem))),
@@ -116,7 +116,7 @@ fn parts_of_formats(rt: HostRuntime) {
     expect_parts(&rt, &PARTS_OF_FORMATS);
 }
 
-/// Two words, of which each number that an item tells is another one.
+/// Two words. Each number that an item prints is a different one.
 const LEXICON: &str = "\
 すもも,1,2,100,名詞,一般,*,*,*,*,すもも,スモモ,スモモ
 もも,2,1,30,名詞,一般,*,*,*,*,もも,モモ,モモ
@@ -126,7 +126,8 @@ const MATRIX: &str = "3 3\n0 1 10\n0 2 20\n1 0 5\n1 1 7\n1 2 -40\n2 0 6\n2 1 8\n
 
 const FEATURES: &str = "名詞,一般,*,*,*,*,すもも,スモモ,スモモ|名詞,一般,*,*,*,*,もも,モモ,モモ|";
 
-/// Whether this is printed of a line of both words, each in a format of this text and a bar.
+/// Returns whether `printed` is the output of a line of both words, each in the format `text`
+/// followed by a bar.
 fn is_printed(alloc: Global, text: &str, printed: &str) -> Result<bool, Fail> {
     let mut node = String::from_str(alloc, text)?;
     node.push('|')?;
@@ -140,7 +141,7 @@ fn is_printed(alloc: Global, text: &str, printed: &str) -> Result<bool, Fail> {
     Ok(outcome.written.as_slice() == printed.as_bytes())
 }
 
-/// An item, what is printed of the two words, and whether it may stand before the first word and behind the last one.
+/// An item, what it prints for the two words, and whether it is allowed in BOS and in EOS.
 type ItemRow = (&'static str, &'static str, bool, bool);
 
 fn expect_items(rt: &(impl Abort + Alloc<A = Global>), rows: &[ItemRow]) -> Result<(), Fail> {
@@ -155,11 +156,11 @@ fn expect_items(rt: &(impl Abort + Alloc<A = Global>), rows: &[ItemRow]) -> Resu
     Ok(())
 }
 
-/// The letters of each item with what MeCab prints of it, and whether the text before the first word and the one behind the last word may show
-/// it. (MeCab, format.html; which texts show what is this project's own choice)
+/// The items, what MeCab prints for each, and whether BOS and EOS may use it. (MeCab, format.html.
+/// Which parts may use which items is this project's own choice.)
 #[rattlefmt::skip]
 static ITEMS: [ItemRow; 20] = [
-    // (text, what is printed of the two words, may stand before the first word, may stand behind the last word)
+    // (text, what is printed for the two words, whether BOS may use it, whether EOS may use it)
     ("%m",    "すもも|もも|",                    false, false),
     ("%M",    "すもも|  もも|",                  false, false),
     ("%pS",   "|  |",                            false, false),

@@ -1,4 +1,4 @@
-//! Sources and texts with their output, and devices that fail.
+//! Sources and texts with their output, and readers and writers that fail.
 
 mod devices;
 mod failing;
@@ -7,7 +7,7 @@ mod growths;
 mod long_output;
 mod older_images;
 mod older_systems;
+mod out_of_memory;
 mod refusals;
 mod rows;
-mod starved;
 mod users;

@@ -7,21 +7,21 @@ use Rattle.char_def.specs.Definitions.{HasNumber}
 use Rattle.char_def.proofs.UnkLemmas.{line_bad, nothing_held, unnamed_refused, full_refused, row_held}
 use Rattle.char_def.proofs.unk_lines.add_line.Goals as goal
 
-pub returns-in_err-record-clause-refused : goal.returns-in_err-record-clause-refused
-returns-in_err-record-clause-refused c =
+pub returns-in_err-record-clause-rejected : goal.returns-in_err-record-clause-rejected
+returns-in_err-record-clause-rejected c =
     let p = err_from_is_err_and c.from_residual.result c.from_residual.ensures.1 in
     rw (p.1, p.2) (line_bad c.args.table.now.categories c.args.number c.args.line.now c.args.held c.in_err-record.field-0.0 c.in_err-record.ensures)
 
 pub returns-in_default-clause-added : goal.returns-in_default-clause-added
 returns-in_default-clause-added c = nothing_held c.args.table.now.categories c.args.number c.args.line.now c.args.held c.args.lists.now.items (rw c.in_default.is at c.in_ok-record.ensures)
 
-pub returns-in_default-number_of-clause-refused : goal.returns-in_default-number_of-clause-refused
-returns-in_default-number_of-clause-refused c =
+pub returns-in_default-number_of-clause-rejected : goal.returns-in_default-number_of-clause-rejected
+returns-in_default-number_of-clause-rejected c =
     inr (unnamed_refused c.args.table.now.categories c.args.number c.args.line.now c.args.held (row_of c.in-Some.record) (rw c.in-Some.is at c.in_ok-record.ensures)
     (rw (c.as_bytes.ensures.value ∙ c.as_str.ensures.value) at c.in_default-number_of.ensures))
 
-pub returns-then-held-ge-ENTRIES_MAX-clause-refused : goal.returns-then-held-ge-ENTRIES_MAX-clause-refused
-returns-then-held-ge-ENTRIES_MAX-clause-refused c =
+pub returns-then-held-ge-ENTRIES_MAX-clause-rejected : goal.returns-then-held-ge-ENTRIES_MAX-clause-rejected
+returns-then-held-ge-ENTRIES_MAX-clause-rejected c =
     let named : HasNumber c.args.table.now.categories (row_of c.in-Some.record).surface c.in-Some-number_of.category = rw (c.as_bytes.ensures.value ∙ c.as_str.ensures.value) at c.in-Some-number_of.ensures in
     inr (full_refused c.args.table.now.categories c.args.number c.args.line.now c.args.held (row_of c.in-Some.record) (rw c.in-Some.is at c.in_ok-record.ensures) named.defined
     (le-ltb c.args.held ENTRIES_MAX c.if-held-ge-ENTRIES_MAX.true))

@@ -18,10 +18,10 @@ loop-number-preserved c = record {
   read = unk_more c.args.table.now.categories _ _ _ c.in-Some.number c.in-Some.line.now c.loop-number.held c.in-Ok.now _ _ c.loop-number.invariant.read c.in-Some.ensures.steps c.in-Ok.ensures.added;
 }
 
-pub returns-in-Err-clause-refused : goal.returns-in-Err-clause-refused
-returns-in-Err-clause-refused c =
+pub returns-in-Err-clause-rejected : goal.returns-in-Err-clause-rejected
+returns-in-Err-clause-rejected c =
     rw c.at.ensures
-    (unk_refused c.args.table.now.categories c.args.bytes.now _ _ c.in-Some.number c.in-Some.line.now c.loop-number.held c.in-Err.kind _ c.loop-number.invariant.read c.in-Some.ensures.steps c.in-Err.ensures.refused)
+    (unk_refused c.args.table.now.categories c.args.bytes.now _ _ c.in-Some.number c.in-Some.line.now c.loop-number.held c.in-Err.kind _ c.loop-number.invariant.read c.in-Some.ensures.steps c.in-Err.ensures.rejected)
 
 pub returns-clause-accepted : goal.returns-clause-accepted
 returns-clause-accepted c = unk_read c.args.table.now.categories c.args.bytes.now _ c.loop-number.held c.loop-number.lists.items c.loop-number.invariant.read c.in-None.ensures.steps.0

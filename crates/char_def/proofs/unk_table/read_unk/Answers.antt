@@ -10,13 +10,13 @@ use Rattle.char_def.proofs.AcceptedUnk.{lists_formed}
 use Rattle.char_def.proofs.UnkLemmas.{refused_whole, missing_refused, none_missing}
 use Rattle.char_def.proofs.unk_table.read_unk.Goals as goal
 
-pub returns-in_err-lists-clause-refused : goal.returns-in_err-lists-clause-refused
-returns-in_err-lists-clause-refused c =
+pub returns-in_err-lists-clause-rejected : goal.returns-in_err-lists-clause-rejected
+returns-in_err-lists-clause-rejected c =
     let p = err_from_is_err_and c.from_residual.result c.from_residual.ensures.1 in
-    rw (p.1, p.2) (refused_whole c.args.table.now.categories c.args.bytes.now c.in_err-lists.field-0.0 c.in_err-lists.ensures.refused)
+    rw (p.1, p.2) (refused_whole c.args.table.now.categories c.args.bytes.now c.in_err-lists.field-0.0 c.in_err-lists.ensures.rejected)
 
-pub returns-then-missing-len-clause-refused : goal.returns-then-missing-len-clause-refused
-returns-then-missing-len-clause-refused c =
+pub returns-then-missing-len-clause-rejected : goal.returns-then-missing-len-clause-rejected
+returns-then-missing-len-clause-rejected c =
     rw c.at.ensures
     (inr (missing_refused c.args.table.now.categories c.args.bytes.now c.in_ok-lists.lists.items c.first_empty-missing.result c.in_ok-lists.ensures.accepted
     (rw c.deref.ensures.value at c.first_empty-missing.ensures.first) (omega (arith, c.in_ok-lists.lists.ok, c.len.ensures, c.if-missing-len.true))))

@@ -6,8 +6,8 @@ use Rattle.lex_source.specs.Lexicons.{LexiconRows}
 use Rattle.mj_model.specs.declared.matrix_sizes.MatrixSizes.{MatrixSizes}
 use Rattle.std.proofs.lemmas.Result.{err_from_is_err_and}
 use Rattle.dict_compile.specs.Steps.{AreLexiconSteps}
-use Rattle.dict_compile.specs.declared.watch.Step.{Step}
-use Rattle.dict_compile.specs.declared.watch.Step.TheVariants.{LexiconRead}
+use Rattle.dict_compile.specs.declared.watch.CompileStep.{CompileStep}
+use Rattle.dict_compile.specs.declared.watch.CompileStep.TheVariants.{LexiconRead}
 use Rattle.dict_compile.proofs.LexiconLemmas.{all_before, lexicons_more, lexicons_fault, lexicons_end, steps_more, added_skips, skips_end}
 use Rattle.dict_compile.proofs.SkipLemmas.{bytes_before, skips_none}
 use Rattle.dict_compile.proofs.StepLemmas.{steps_none}
@@ -19,7 +19,7 @@ loop-bytes-init g c = (
   λ more read h. subst (λ (rows : List Row). AreLexicons c.args.sizes 3 rows more read) (ap (λ (l : LexiconRows). l.rows) c.new-lexicon.ensures) h,
   skips_none,
   omega arith,
-  λ before told. ([], steps_none c.args.sizes, subst (g.W.Watch.told c.args.watch.now) (sym (append-nil before)) told),
+  λ before told. ([], steps_none c.args.sizes, subst (g.W.Watch.reported c.args.watch.now) (sym (append-nil before)) told),
 )
 
 pub loop-bytes-preserved : goal.loop-bytes-preserved
@@ -28,10 +28,10 @@ loop-bytes-preserved g c =
     let sizes : MatrixSizes = c.args.sizes in
     let lexicons = c.args.lexicons.now in
     let i = c.loop-bytes.bytes-index in
-    let step : Step = LexiconRead c.len.result in (
+    let step : CompileStep = LexiconRead c.len.result in (
       adds.sizes ∙ c.loop-bytes.invariant.0,
       lexicons_more sizes c.loop-bytes.file lexicons i _ c.loop-bytes-test.true c.loop-bytes.lexicon
-          c.loop-bytes.invariant.0 c.loop-bytes.invariant.1 c.add.new.self _ c.file_behind-file.result c.file_behind-file.ensures adds,
+          c.loop-bytes.invariant.0 c.loop-bytes.invariant.1 c.add.new.self _ c.file_after-file.result c.file_after-file.ensures adds,
       subst (SkipLines (bytes_before lexicons (i + 1))) (sym c.with_more-skipped.ensures.sum) (added_skips c.loop-bytes.file lexicons i _ c.loop-bytes-test.true c.loop-bytes.lexicon c.add.new.self
           c.loop-bytes.skipped _ c.loop-bytes.invariant.2 adds),
       omega (arith, c.loop-bytes.invariant.3, c.with_more-skipped.ensures.bound),
@@ -40,17 +40,17 @@ loop-bytes-preserved g c =
             was.0 ++ step ∷ [],
             subst (λ (n : ℕ). AreLexiconSteps sizes (bytes_before lexicons (i + 1)) (was.0 ++ LexiconRead n ∷ [])) (sym c.len.ensures)
                 (steps_more sizes c.loop-bytes.file lexicons i _ c.loop-bytes-test.true c.loop-bytes.lexicon
-                c.loop-bytes.invariant.0 c.loop-bytes.invariant.1 c.add.new.self _ c.file_behind-file.result c.file_behind-file.ensures adds was.0 was.1),
-            subst (g.W.Watch.told c.done.new.self) (append_assoc before was.0 (step ∷ [])) (c.done.ensures (before ++ was.0) was.2),
+                c.loop-bytes.invariant.0 c.loop-bytes.invariant.1 c.add.new.self _ c.file_after-file.result c.file_after-file.ensures adds was.0 was.1),
+            subst (g.W.Watch.reported c.done.new.self) (append_assoc before was.0 (step ∷ [])) (c.done.ensures (before ++ was.0) was.2),
           ),
     )
 
-pub returns-in_err-more-clause-refused : goal.returns-in_err-more-clause-refused
-returns-in_err-more-clause-refused g c =
+pub returns-in_err-more-clause-rejected : goal.returns-in_err-more-clause-rejected
+returns-in_err-more-clause-rejected g c =
     let p = err_from_is_err_and c.from_residual.result c.from_residual.ensures.1 in
     rw (p.1, p.2)
     (lexicons_fault c.args.sizes c.loop-bytes.file c.args.lexicons.now c.loop-bytes.bytes-index _ c.loop-bytes-test.true c.loop-bytes.lexicon
-    c.loop-bytes.invariant.0 c.loop-bytes.invariant.1 c.in_err-more.field-0.0 c.in_err-more.ensures.refused)
+    c.loop-bytes.invariant.0 c.loop-bytes.invariant.1 c.in_err-more.field-0.0 c.in_err-more.ensures.rejected)
 
 pub returns-clause-accepted : goal.returns-clause-accepted
 returns-clause-accepted g c =

@@ -3,34 +3,34 @@ use Rattle.std.proofs.lemmas.Result.{err_from_is_err_and}
 use Rattle.std.specs.Prelude.{Ok}
 use Rattle.dict_compile.specs.OtherSources.{sources_with}
 use Rattle.mj_model.specs.declared.matrix_sizes.MatrixSizes.{MatrixSizes}
-use Rattle.dict_compile.specs.Answers.{lexicons_of}
+use Rattle.dict_compile.specs.Results.{lexicons_of}
 use Rattle.dict_compile.specs.Steps.{AreLexiconSteps, steps_before}
-use Rattle.dict_compile.specs.declared.watch.Step.TheVariants.{MatrixRead, CategoriesRead, UnknownRead}
+use Rattle.dict_compile.specs.declared.watch.CompileStep.TheVariants.{MatrixRead, CategoriesRead, UnknownRead}
 use Rattle.dict_compile.proofs.StepLemmas.{behind_three}
 use Rattle.dict_compile.proofs.SourceLemmas.{chars_at_fault, unknown_at_fault, unknown_read, lexicons_at_fault, rows_read}
 use Rattle.dict_compile.proofs.parts.read_others.Goals as goal
 
-pub returns-in_err-chars-clause-refused : goal.returns-in_err-chars-clause-refused
-returns-in_err-chars-clause-refused g c = λ costs table.
+pub returns-in_err-chars-clause-rejected : goal.returns-in_err-chars-clause-rejected
+returns-in_err-chars-clause-rejected g c = λ costs table.
     let p = err_from_is_err_and c.from_residual.result c.from_residual.ensures.1 in
     rw (p.1, p.2)
     (chars_at_fault (sources_with costs c.args.others.now) c.args.matrix (c.sizes-sizes.result) c.sizes-sizes.ensures.sizes
-    table c.in_err-chars.field-0.0 c.in_err-chars.ensures.refused)
+    table c.in_err-chars.field-0.0 c.in_err-chars.ensures.rejected)
 
-pub returns-in_err-unknown-clause-refused : goal.returns-in_err-unknown-clause-refused
-returns-in_err-unknown-clause-refused g c = λ costs table.
+pub returns-in_err-unknown-clause-rejected : goal.returns-in_err-unknown-clause-rejected
+returns-in_err-unknown-clause-rejected g c = λ costs table.
     let p = err_from_is_err_and c.from_residual-in_err-unknown.result c.from_residual-in_err-unknown.ensures.1 in
     rw (p.1, p.2)
     (unknown_at_fault (sources_with costs c.args.others.now) c.args.matrix (c.sizes-sizes.result) c.sizes-sizes.ensures.sizes
-    table c.in_ok-chars.chars c.in_ok-chars.ensures.accepted c.in_err-unknown.field-0.0 c.in_err-unknown.ensures.refused)
+    table c.in_ok-chars.chars c.in_ok-chars.ensures.accepted c.in_err-unknown.field-0.0 c.in_err-unknown.ensures.rejected)
 
-pub returns-in_err-lexicons-clause-refused : goal.returns-in_err-lexicons-clause-refused
-returns-in_err-lexicons-clause-refused g c = λ costs table.
+pub returns-in_err-lexicons-clause-rejected : goal.returns-in_err-lexicons-clause-rejected
+returns-in_err-lexicons-clause-rejected g c = λ costs table.
     let p = err_from_is_err_and c.from_residual-in_err-lexicons.result c.from_residual-in_err-lexicons.ensures.1 in
     rw (p.1, p.2)
     (lexicons_at_fault (sources_with costs c.args.others.now) c.args.matrix (c.sizes-sizes.result) c.sizes-sizes.ensures.sizes
     table c.in_ok-chars.chars c.in_ok-chars.ensures.accepted c.in_ok-unknown.unknown c.in_ok-unknown.ensures.accepted
-    c.in_err-lexicons.field-0.0 c.in_err-lexicons.ensures.refused)
+    c.in_err-lexicons.field-0.0 c.in_err-lexicons.ensures.rejected)
 
 pub returns-clause-accepted : goal.returns-clause-accepted
 returns-clause-accepted g c = λ costs table.
@@ -66,5 +66,5 @@ returns-clause-steps g c = λ before told.
             ap (λ (s : MatrixSizes). steps_before s count ++ rest.0) c.sizes-sizes.ensures.sizes
             ∙ ap (λ (n : ℕ). steps_before c.args.matrix.sizes n ++ rest.0) c.count.ensures.count;
       },
-      subst (g.W.Watch.told c.read_lexicons.new.watch) (behind_three before (MatrixRead sizes) (CategoriesRead count) UnknownRead rest.0) rest.2,
+      subst (g.W.Watch.reported c.read_lexicons.new.watch) (behind_three before (MatrixRead sizes) (CategoriesRead count) UnknownRead rest.0) rest.2,
     )

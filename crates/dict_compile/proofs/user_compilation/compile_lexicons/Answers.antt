@@ -1,12 +1,12 @@
 use Rattle.std.proofs.Common.{List, [], ◌∷◌, ◌++◌, length, map, subst, sym, append_assoc}
 use Rattle.std.proofs.lemmas.Result.{IfErr-weaker, IfOk-weaker, err_from_is_err_and}
 use Rattle.mj_model.specs.Connection.{AreMatrixSizes}
-use Rattle.mj_model.specs.FirstFault.{IsRefusal}
+use Rattle.mj_model.specs.FirstFault.{IsMemoryOr}
 use Rattle.dict_compile.specs.Compilation.{IsUserCause, IsUserCompilation}
-use Rattle.dict_compile.specs.UserImages.{IsUserImageOf, IsUserImageRefusal}
+use Rattle.dict_compile.specs.UserImages.{IsUserImageOf, IsUserImageError}
 use Rattle.dict_compile.specs.Steps.{AreEntrySteps}
-use Rattle.dict_compile.specs.declared.watch.Step.{Step}
-use Rattle.dict_compile.specs.declared.watch.Step.TheVariants.{Sorted}
+use Rattle.dict_compile.specs.declared.watch.CompileStep.{CompileStep}
+use Rattle.dict_compile.specs.declared.watch.CompileStep.TheVariants.{Sorted}
 use Rattle.dict_compile.proofs.StepLemmas.{steps_sorted}
 use Rattle.dict_compile.proofs.UserLemmas.{lexicons_refused, user_compilation, user_refusal, user_refused_for, user_told_for}
 use Rattle.dict_compile.proofs.user_compilation.compile_lexicons.Goals as goal
@@ -16,13 +16,13 @@ returns-in_err-read-clause-first g c = λ system is fault h.
     let lexicons = map (λ lexicon. lexicon.now) c.args.lexicons.now in
     let p = err_from_is_err_and c.from_residual.result c.from_residual.ensures.1 in
     rw (p.1, p.2)
-    (user_told_for system lexicons fault c.in_err-read.field-0.0 h (lexicons_refused c.args.sizes system is lexicons c.in_err-read.field-0.0 c.in_err-read.ensures.refused))
+    (user_told_for system lexicons fault c.in_err-read.field-0.0 h (lexicons_refused c.args.sizes system is lexicons c.in_err-read.field-0.0 c.in_err-read.ensures.rejected))
 
-pub returns-in_err-read-clause-refused : goal.returns-in_err-read-clause-refused
-returns-in_err-read-clause-refused g c = λ system is.
+pub returns-in_err-read-clause-rejected : goal.returns-in_err-read-clause-rejected
+returns-in_err-read-clause-rejected g c = λ system is.
     let lexicons = map (λ lexicon. lexicon.now) c.args.lexicons.now in
     let p = err_from_is_err_and c.from_residual.result c.from_residual.ensures.1 in
-    rw (p.1, p.2) (lexicons_refused c.args.sizes system is lexicons c.in_err-read.field-0.0 c.in_err-read.ensures.refused)
+    rw (p.1, p.2) (lexicons_refused c.args.sizes system is lexicons c.in_err-read.field-0.0 c.in_err-read.ensures.rejected)
 
 pub user_image-requires : goal.user_image-requires
 user_image-requires g c = subst AreMatrixSizes (sym c.in_ok-read.ensures.sizes) c.requires
@@ -35,25 +35,25 @@ returns-clause-compiled g c = λ system is.
     (λ compiled image. user_compilation c.args.sizes system is lexicons read c.in_ok-read.ensures.sizes c.in_ok-read.ensures.accepted compiled c.in_ok-read.ensures.skipped image)
     c.user_image.ensures.image
 
-pub returns-clause-refused : goal.returns-clause-refused
-returns-clause-refused g c = λ system is.
+pub returns-clause-rejected : goal.returns-clause-rejected
+returns-clause-rejected g c = λ system is.
     let lexicons = map (λ lexicon. lexicon.now) c.args.lexicons.now in
     let read = c.in_ok-read.read in
-    IfErr-weaker c.user_image.result (IsUserImageRefusal read) (λ fault. IsRefusal fault (IsUserCause system lexicons fault))
-    (λ fault h. user_refusal c.args.sizes system is lexicons read c.in_ok-read.ensures.sizes c.in_ok-read.ensures.accepted fault h) c.user_image.ensures.refused
+    IfErr-weaker c.user_image.result (IsUserImageError read) (λ fault. IsMemoryOr fault (IsUserCause system lexicons fault))
+    (λ fault h. user_refusal c.args.sizes system is lexicons read c.in_ok-read.ensures.sizes c.in_ok-read.ensures.accepted fault h) c.user_image.ensures.rejected
 
 pub returns-clause-first : goal.returns-clause-first
 returns-clause-first g c = λ system is fault h.
     user_refused_for c.args.sizes system is (map (λ lexicon. lexicon.now) c.args.lexicons.now) c.in_ok-read.read c.in_ok-read.ensures.sizes c.in_ok-read.ensures.accepted
-    c.in_ok-read.ensures.skipped fault c.user_image.result h c.user_image.ensures.image c.user_image.ensures.refused
+    c.in_ok-read.ensures.skipped fault c.user_image.result h c.user_image.ensures.image c.user_image.ensures.rejected
 
 pub returns-clause-steps : goal.returns-clause-steps
 returns-clause-steps g c = λ before told.
     let lexicons = map (λ lexicon. lexicon.now) c.args.lexicons.now in
     let rows = c.in_ok-read.read.lexicon.rows in
-    let sorted : List Step = Sorted (length rows) ∷ [] in
+    let sorted : List CompileStep = Sorted (length rows) ∷ [] in
     let read = c.in_ok-read.ensures.steps before told in
-    let W = g.W.Watch.told c.user_image.new.watch in
-    IfOk-weaker c.user_image.result (λ _. W ((before ++ read.0) ++ sorted)) (λ _. (steps : List Step) × AreEntrySteps c.args.sizes lexicons steps × W (before ++ steps))
+    let W = g.W.Watch.reported c.user_image.new.watch in
+    IfOk-weaker c.user_image.result (λ _. W ((before ++ read.0) ++ sorted)) (λ _. (steps : List CompileStep) × AreEntrySteps c.args.sizes lexicons steps × W (before ++ steps))
     (λ _ all. (read.0 ++ sorted, steps_sorted c.args.sizes lexicons read.0 rows read.1 c.in_ok-read.ensures.accepted, subst W (append_assoc before read.0 sorted) all))
     (c.user_image.ensures.steps (before ++ read.0) read.2)

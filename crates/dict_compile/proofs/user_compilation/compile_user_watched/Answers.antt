@@ -3,10 +3,10 @@ use Rattle.std.proofs.lemmas.Result.{err_from_is_err_and}
 use Rattle.mj_model.specs.declared.matrix_sizes.MatrixSizes.{MatrixSizes}
 use Rattle.dict_compile.specs.Steps.{AreEntrySteps}
 use Rattle.dict_compile.specs.Compilation.{IsUserCause}
-use Rattle.mj_model.specs.FirstFault.{IsRefusal}
+use Rattle.mj_model.specs.FirstFault.{IsMemoryOr}
 use Rattle.dict_compile.proofs.EveryKey.{keys_of_lexicons}
 use Rattle.dict_compile.proofs.UserLemmas.{is_system_of, same_told}
-use Rattle.image_bytes.specs.ImageMeaning.{image_tables}
+use Rattle.image_format.specs.ImageMeaning.{image_tables}
 use Rattle.dict_compile.proofs.KindLemmas.{a_user, not_both}
 use Rattle.dict_compile.proofs.user_compilation.compile_user_watched.Goals as goal
 
@@ -35,12 +35,12 @@ returns-clause-first g c =
     c.in_ok-compile_lexicons.ensures.first system
     (is_system_of system c.matrix_sizes-sizes.result c.if-is_user.ensures.kind c.matrix_sizes-sizes.ensures.sizes)
 
-pub returns-in_err-compile_lexicons-clause-refused : goal.returns-in_err-compile_lexicons-clause-refused
-returns-in_err-compile_lexicons-clause-refused g c = λ fault e.
+pub returns-in_err-compile_lexicons-clause-rejected : goal.returns-in_err-compile_lexicons-clause-rejected
+returns-in_err-compile_lexicons-clause-rejected g c = λ fault e.
     let system = image_tables c.args.system.now in
     let p = err_from_is_err_and c.from_residual.result c.from_residual.ensures.1 in
-    subst (λ told. IsRefusal told (IsUserCause system (map (λ lexicon. lexicon.now) c.args.lexicons.now) told)) (same_told (sym (p.1 ∙ ap Err p.2) ∙ e))
-    (c.in_err-compile_lexicons.ensures.refused system
+    subst (λ told. IsMemoryOr told (IsUserCause system (map (λ lexicon. lexicon.now) c.args.lexicons.now) told)) (same_told (sym (p.1 ∙ ap Err p.2) ∙ e))
+    (c.in_err-compile_lexicons.ensures.rejected system
     (is_system_of system c.matrix_sizes-sizes.result c.if-is_user.ensures.kind c.matrix_sizes-sizes.ensures.sizes))
 
 pub returns-in_err-compile_lexicons-clause-first : goal.returns-in_err-compile_lexicons-clause-first

@@ -1,6 +1,6 @@
 use Rattle.std.proofs.Common.{◌≡◌, ◌+◌, ◌-◌, ◌++◌, ◌∷◌, [], List, suc, rules, sym, ap, ◌∙◌, subst, arith}
 use Rattle.mj_model.specs.declared.category.Category.{Category}
-use Rattle.dict_image.specs.Categories.{HasFront, listed_categories}
+use Rattle.dict_image.specs.Categories.{HasCategoriesFirst, listed_categories}
 use Rattle.dict_image.proofs.CategoryLemmas.{category_more, front_more}
 use Rattle.dict_image.proofs.categories.categories_of.Goals as goal
 
@@ -9,8 +9,8 @@ category_of-requires c =
     let less = c.loop-test.true in
     (front_more (c.args.count - (c.loop.counter + 1)) (c.args.count - c.loop.counter) c.loop.rest.now (omega (arith, less)) c.loop.invariant.front).0
 
-pub behind_category-rest-requires : goal.behind_category-rest-requires
-behind_category-rest-requires c =
+pub after_category-rest-requires : goal.after_category-rest-requires
+after_category-rest-requires c =
     let less = c.loop-test.true in
     (front_more (c.args.count - (c.loop.counter + 1)) (c.args.count - c.loop.counter) c.loop.rest.now (omega (arith, less)) c.loop.invariant.front).0
 
@@ -20,11 +20,11 @@ loop-preserved c =
     let fewer = c.args.count - (c.loop.counter + 1) in
     let less = c.loop-test.true in
     let one : left ≡ suc fewer = omega (arith, less) in
-    let behind = c.behind_category-rest.ensures in
+    let following = c.after_category-rest.ensures in
     let pushed : c.push.new.self.items ≡ c.loop.list.items ++ c.category_of.result ∷ [] = search (rules, c.in_ok-push.ensures.items) in
     record {
-      front = subst (HasFront fewer) (sym behind) (front_more fewer left c.loop.rest.now one c.loop.invariant.front).1;
-      listed = ap (λ (cs : List Category). cs ++ listed_categories fewer c.behind_category-rest.result.now) pushed
-          ∙ category_more fewer left c.loop.list.items c.category_of.result c.loop.rest.now c.behind_category-rest.result.now one c.category_of.ensures behind
+      front = subst (HasCategoriesFirst fewer) (sym following) (front_more fewer left c.loop.rest.now one c.loop.invariant.front).1;
+      listed = ap (λ (cs : List Category). cs ++ listed_categories fewer c.after_category-rest.result.now) pushed
+          ∙ category_more fewer left c.loop.list.items c.category_of.result c.loop.rest.now c.after_category-rest.result.now one c.category_of.ensures following
           ∙ c.loop.invariant.listed;
     }

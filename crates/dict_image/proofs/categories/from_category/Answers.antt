@@ -1,10 +1,10 @@
 use Rattle.std.proofs.Common.{◌≡◌, ◌+◌, ◌-◌, suc, sym, ap, ◌∙◌, subst, arith}
-use Rattle.dict_image.specs.Categories.{HasFront, bytes_from}
+use Rattle.dict_image.specs.Categories.{HasCategoriesFirst, bytes_from}
 use Rattle.dict_image.proofs.CategoryLemmas.{front_more, from_more}
 use Rattle.dict_image.proofs.categories.from_category.Goals as goal
 
-pub behind_category-rest-requires : goal.behind_category-rest-requires
-behind_category-rest-requires c =
+pub after_category-rest-requires : goal.after_category-rest-requires
+after_category-rest-requires c =
     let left = c.args.i - c.loop.counter in
     let less = c.loop-test.true in
     (front_more (c.args.i - (c.loop.counter + 1)) left c.loop.rest.now (omega (arith, less)) c.loop.invariant.front).0
@@ -15,8 +15,8 @@ loop-preserved c =
     let fewer = c.args.i - (c.loop.counter + 1) in
     let less = c.loop-test.true in
     let one : left ≡ suc fewer = omega (arith, less) in
-    let behind = c.behind_category-rest.ensures in
+    let following = c.after_category-rest.ensures in
     record {
-      front = subst (HasFront fewer) (sym behind) (front_more fewer left c.loop.rest.now one c.loop.invariant.front).1;
-      same = ap (bytes_from fewer) behind ∙ sym (from_more fewer left c.loop.rest.now one) ∙ c.loop.invariant.same;
+      front = subst (HasCategoriesFirst fewer) (sym following) (front_more fewer left c.loop.rest.now one c.loop.invariant.front).1;
+      same = ap (bytes_from fewer) following ∙ sym (from_more fewer left c.loop.rest.now one) ∙ c.loop.invariant.same;
     }

@@ -1,5 +1,5 @@
 use Rattle.std.proofs.Common.{◌≡◌, ◌+◌, ◌++◌, ◌∷◌, [], rules, sym, subst}
-use Rattle.image_bytes.specs.ImageSections.{stored_cost}
+use Rattle.image_format.specs.ImageSections.{stored_cost}
 use Rattle.dict_image.specs.CostTables.{cost_before}
 use Rattle.dict_image.specs.Rows.{GrowsByRow}
 use Rattle.dict_image.proofs.RowLemmas.{cost_more}

@@ -1,8 +1,8 @@
 use Rattle.std.proofs.Common.{◌≡◌, List, ℕ, subst, sym}
-use Rattle.image_bytes.specs.ImageBytes.{header_of}
-use Rattle.image_bytes.specs.ImageFaults.{IsIntact}
-use Rattle.image_bytes.specs.declared.layout.TheConstants.{LAYOUT}
-use Rattle.image_check.specs.Outlines.{IsOutline}
+use Rattle.image_format.specs.ImageBytes.{header_of}
+use Rattle.image_format.specs.ImageFaults.{IsIntact}
+use Rattle.image_format.specs.declared.layout.TheConstants.{LAYOUT}
+use Rattle.dict_image.specs.Validation.Outlines.{IsOutline}
 use Rattle.dict_image.proofs.loading.load_trusted.Goals as goal
 
 pub outline_of_written-outline-requires-clause-intact : goal.outline_of_written-outline-requires-clause-intact

@@ -1,4 +1,4 @@
-use Rattle.image_check.proofs.OutlineLemmas.{sections_within}
+use Rattle.dict_image.proofs.OutlineLemmas.{sections_within}
 use Rattle.dict_image.proofs.CategoryLemmas.{categories_in_image, fronts_in}
 use Rattle.dict_image.proofs.CostTableLemmas.{cost_table_in, costs_in}
 use Rattle.dict_image.proofs.InfoTableLemmas.{readable_in, table_in}

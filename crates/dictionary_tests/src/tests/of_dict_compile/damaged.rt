@@ -1,4 +1,4 @@
-//! Compiled images that were changed, as they are loaded.
+//! Loading of compiled images with changed bytes.
 use crate::tests::samples::{
     fault_of, fault_of_front, fault_of_longer, sample_dict, sample_image, user_of, with_byte,
 };
@@ -9,10 +9,10 @@ use sha2::{Digest, Sha256};
 use std::alloc::{AllocError, Global};
 use std::test::Fail;
 
-/// How many bytes the digest has.
+/// The length of the checksum in bytes.
 const DIGEST: usize = 32;
 
-/// The image with another byte at a place, and with the digest of its bytes then.
+/// Returns `image` with `byte` at position `at`, and with a checksum that matches.
 fn sealed_with(alloc: Global, image: &[u8], at: usize, byte: u8) -> Result<Vec<u8>, AllocError> {
     let body = &image[..image.len().saturating_sub(DIGEST)];
     let mut new = with_byte(alloc, body, at, byte)?;
@@ -21,7 +21,9 @@ fn sealed_with(alloc: Global, image: &[u8], at: usize, byte: u8) -> Result<Vec<u
     Ok(new)
 }
 
-/// The fault of the image with another byte at a place, with the digest of its bytes then or with the first one.
+/// Returns the error of loading `image` with `byte` at position `at`.
+///
+/// The checksum is made anew if `seals`, and otherwise is the old one.
 fn fault_with(
     alloc: Global,
     image: &[u8],
@@ -37,8 +39,8 @@ fn fault_with(
     Ok(fault_of(alloc, changed))
 }
 
-/// What is changed, a place, the byte that stands there then, and the faults that are told of it: with the digest of the bytes then, and with the
-/// first one.
+/// A label, a position, the new byte there, and two errors: with a new checksum, and with the old
+/// one.
 type Row = (
     &'static str,
     usize,
@@ -47,7 +49,8 @@ type Row = (
     Option<ImageFault>,
 );
 
-/// Changes of the sample's image, whose sections 1 and 2 have 8 and 62 bytes, so that its first range stands at byte 174.
+/// Changes of the sample's image. Its sections 1 and 2 have 8 and 62 bytes, so that its first range
+/// is at byte 174.
 #[rattlefmt::skip]
 static CHANGES: [Row; 10] = [
     ("no change",                         0,   b'M', None,                None),
@@ -62,7 +65,7 @@ static CHANGES: [Row; 10] = [
     ("cell 0 has check -1",               310, 255,  Some(BadSection(5)), Some(BadDigest)),
 ];
 
-/// The rows. Who calls this does not have them in its own proof.
+/// Returns the test cases. A call keeps the table out of the caller's proof.
 fn rows() -> &'static [Row] {
     &CHANGES
 }
@@ -93,7 +96,7 @@ fn changes_behind_the_digest(rt: HostRuntime) -> Result<(), Fail> {
     Ok(())
 }
 
-/// Lengths of the image's header, and of less.
+/// Lengths up to that of the header, and one that is a little longer.
 static LENGTHS: [usize; 4] = [0, 103, 104, 136];
 
 #[test]
@@ -112,10 +115,10 @@ fn other_lengths(rt: HostRuntime) -> Result<(), Fail> {
     Ok(())
 }
 
-/// Changes of the image of a user dictionary of one token.
+/// Changes of a user image with one token.
 #[rattlefmt::skip]
 static TOKEN_CHANGES: [(&str, usize, u8, Option<ImageFault>); 8] = [
-    // (what, a place that is counted back from the digest, the byte there, the fault)
+    // (what, a position that is counted back from the checksum, the new byte there, the error)
     ("no change",            1,  b'X', None),
     ("left id 2",            17, 2,    Some(BadToken(0))),
     ("right id 2",           15, 2,    Some(BadToken(0))),
@@ -126,7 +129,7 @@ static TOKEN_CHANGES: [(&str, usize, u8, Option<ImageFault>); 8] = [
     ("group 0 from token 1", 25, 1,    Some(BadSection(6))),
 ];
 
-/// The image of a user dictionary of one token.
+/// Returns a user image with one token.
 fn one_token(alloc: Global) -> Result<Vec<u8>, Fail> {
     let system = sample_dict(alloc)?;
     Ok(user_of(alloc, &system, &[b"a,1,1,1,X\n".as_slice()])?.image)

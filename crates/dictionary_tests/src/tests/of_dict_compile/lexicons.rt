@@ -8,7 +8,7 @@ use std::alloc::Global;
 use std::process::Abort;
 use std::test::Fail;
 
-/// Keys of the sample, with their entries.
+/// Keys of the sample and their entries.
 #[rattlefmt::skip]
 static SUMOMO: [(&str, &[Expected]); 8] = [
     // (key, entries)
@@ -22,10 +22,10 @@ static SUMOMO: [(&str, &[Expected]); 8] = [
     ("x", NONE),
 ];
 
-/// What a dictionary has: how many entries, how many skipped lines, and whether these are the entries of a key.
+/// The number of entries, the number of skipped lines, and whether a key has the expected entries.
 type Answer = (u64, u128, bool);
 
-/// Whether these are the entries of a key in the dictionary of an image.
+/// Returns whether the dictionary of `image` has `entries` at `key`.
 fn has_entries(
     alloc: Global,
     image: Vec<u8>,
@@ -35,7 +35,7 @@ fn has_entries(
     Ok(are_entries(&dict_of(alloc, image)?, key, entries))
 }
 
-/// What the dictionary of sources has.
+/// Compiles `sources` and looks up `key`, which should have `entries`.
 fn answer(
     alloc: Global,
     sources: &Sources<'_>,
@@ -48,12 +48,12 @@ fn answer(
     Ok((count, skipped, has_entries))
 }
 
-/// Whether a dictionary is a system with the sample's sizes.
+/// Returns whether `dict` is a system dictionary with the sample's sizes.
 fn is_system(dict: &Dict) -> bool {
     !dict.is_user() && dict.matrix_sizes() == MatrixSizes { right: 2, left: 2 }
 }
 
-/// Asks for the entries of the sample's keys.
+/// Checks the entries of the sample's keys.
 fn expect_sumomo(rt: &impl Abort, dict: &Dict) {
     assert!(rt; is_system(dict));
     for (key, entries) in &SUMOMO {
@@ -61,7 +61,7 @@ fn expect_sumomo(rt: &impl Abort, dict: &Dict) {
     }
 }
 
-/// Whether the sample has three entries and no skipped line.
+/// Returns whether the sample has three entries and no skipped line.
 fn are_three(alloc: Global) -> Result<bool, Fail> {
     let compiled = compiled_of(alloc, &sample())?;
     Ok((compiled.entries, compiled.skipped) == (3, 0))
@@ -74,10 +74,10 @@ fn sumomo(rt: HostRuntime) -> Result<(), Fail> {
     Ok(())
 }
 
-/// A surface that begins a text: its length in bytes, and the feature of its first entry.
+/// A surface that is a prefix of a text: its length in bytes, and the feature of its first entry.
 type Prefix = (usize, &'static str);
 
-/// Whether the next entry has this feature.
+/// Returns whether the next entry has the feature `feature`.
 fn begins_with(entries: &mut Entries<'_>, feature: &str) -> bool {
     match entries.next() {
         Some(entry) => entry.feature == feature,
@@ -85,7 +85,7 @@ fn begins_with(entries: &mut Entries<'_>, feature: &str) -> bool {
     }
 }
 
-/// Whether these are the surfaces that begin a text, and there are no others.
+/// Returns whether `expected` are the surfaces that are prefixes of `text`.
 fn are_prefixes(dict: &Dict, text: &str, expected: &[Prefix]) -> bool {
     let mut prefixes = dict.prefixes(text);
     for (length, feature) in expected {
@@ -99,10 +99,10 @@ fn are_prefixes(dict: &Dict, text: &str, expected: &[Prefix]) -> bool {
     prefixes.next().is_none()
 }
 
-/// Texts with the surfaces that begin them.
+/// Texts, and the surfaces that are prefixes of them.
 #[rattlefmt::skip]
 static TEXTS: [(&str, &[Prefix]); 5] = [
-    // (text, the surfaces that begin it)
+    // (text, its prefixes)
     ("すもももも", &[(9, "名詞,すもも")]),
     ("もももも", &[(3, "助詞,も"), (6, "名詞,もも")]),
     ("もす", &[(3, "助詞,も")]),
@@ -110,7 +110,7 @@ static TEXTS: [(&str, &[Prefix]); 5] = [
     ("", &[]),
 ];
 
-/// Asks for the surfaces that begin the texts.
+/// Checks the prefixes of the texts.
 fn expect_prefixes(rt: &impl Abort, dict: &Dict) {
     for (text, expected) in &TEXTS {
         assert!(rt; are_prefixes(dict, text, expected), "{text}");
@@ -123,24 +123,30 @@ fn surfaces_that_begin_a_text(rt: HostRuntime) -> Result<(), Fail> {
     Ok(())
 }
 
-/// Two lexicons, and what their dictionary has.
+/// Pairs of lexicons, and their dictionaries.
 #[rattlefmt::skip]
 static TWO_LEXICONS: [(&str, &str, &str, u64, u128, &str, &[Expected]); 11] = [
-    // (what, the two lexicons, how many entries, how many skipped lines, a key, its entries)
-    ("same_surface_twice", "a,1,1,10,X\na,1,1,10,Y\n", "", 2, 0, "a", &[(0, 1, 1, 10, "X"), (1, 1, 1, 10, "Y")]),
-    ("features in falling order", "a,1,1,10,Y\nb,1,1,10,Z\na,1,1,10,X\n", "", 3, 0, "a", &[(0, 1, 1, 10, "Y"), (1, 1, 1, 10, "X")]),
-    ("one surface in each", "b,1,1,9,Z\na,0,1,30,Y\n", "a,1,0,-5,X\n", 3, 0, "a", &[(0, 0, 1, 30, "Y"), (1, 1, 0, -5, "X")]),
+    // (what, the two lexicons, number of entries, number of skipped lines, a key, its entries)
+    ("same_surface_twice", "a,1,1,10,X\na,1,1,10,Y\n", "", 2, 0, "a",
+        &[(0, 1, 1, 10, "X"), (1, 1, 1, 10, "Y")]),
+    ("features in falling order", "a,1,1,10,Y\nb,1,1,10,Z\na,1,1,10,X\n", "", 3, 0, "a",
+        &[(0, 1, 1, 10, "Y"), (1, 1, 1, 10, "X")]),
+    ("one surface in each", "b,1,1,9,Z\na,0,1,30,Y\n", "a,1,0,-5,X\n", 3, 0, "a",
+        &[(0, 0, 1, 30, "Y"), (1, 1, 0, -5, "X")]),
     ("lexicon_lines", "\n,1,1,5,X\nも,1,1,20,Y\r\n", "", 1, 1, "も", &[(0, 1, 1, 20, "Y")]),
-    ("skipped lines in both", ",1,1,5,X\n,9,9,5,X\na,1,1,10,X\n", "b,1,1,10,Y\n,1,1,5,X\n", 2, 3, "b", &[(1, 1, 1, 10, "Y")]),
+    ("skipped lines in both", ",1,1,5,X\n,9,9,5,X\na,1,1,10,X\n", "b,1,1,10,Y\n,1,1,5,X\n", 2, 3,
+        "b", &[(1, 1, 1, 10, "Y")]),
     ("skipped lines alone", ",1,1,5,X\n", ",1,1,5,X\n", 0, 2, "", NONE),
     ("empty_lexicon", "", "", 0, 0, "も", NONE),
     ("blank lines", "\n\r\n", "\n", 0, 0, "も", NONE),
-    ("quoted_fields", "\"a,b\",1,1,10,X\n\"a\"\"b\",1,1,10,Y\n", "", 2, 0, "a,b", &[(1, 1, 1, 10, "X")]),
-    ("least and greatest cost", "a,1,1,-32768,X\na,1,1,32767,X\n", "", 2, 0, "a", &[(0, 1, 1, -32768, "X"), (1, 1, 1, 32767, "X")]),
+    ("quoted_fields", "\"a,b\",1,1,10,X\n\"a\"\"b\",1,1,10,Y\n", "", 2, 0, "a,b",
+        &[(1, 1, 1, 10, "X")]),
+    ("least and greatest cost", "a,1,1,-32768,X\na,1,1,32767,X\n", "", 2, 0, "a",
+        &[(0, 1, 1, -32768, "X"), (1, 1, 1, 32767, "X")]),
     ("beyond the basic plane", "𠮷,1,1,10,X\nも,1,1,20,Y\n", "", 2, 0, "𠮷", &[(1, 1, 1, 10, "X")]),
 ];
 
-/// What the dictionary of two lexicons has.
+/// Compiles two lexicons and looks up `key`, which should have `entries`.
 fn answer_of_two(
     alloc: Global,
     first: &str,
@@ -161,7 +167,7 @@ fn two_lexicons(rt: HostRuntime) -> Result<(), Fail> {
     Ok(())
 }
 
-/// Whether the dictionary of no lexicon has no entry, and no surface that begins a text.
+/// Returns whether the dictionary of no lexicons has no entry, and finds no prefix of `text`.
 fn is_empty(alloc: Global, text: &str) -> Result<bool, Fail> {
     let compiled = compiled_of(alloc, &with_lexicons(&[]))?;
     let counted = (compiled.entries, compiled.skipped) == (0, 0);
@@ -175,21 +181,22 @@ fn no_lexicon(rt: HostRuntime) -> Result<(), Fail> {
     Ok(())
 }
 
-/// Connection tables.
+/// Connection matrices.
 #[rattlefmt::skip]
 static COSTS: [(&str, &str, u32, u32, &[u8]); 3] = [
-    // (what, matrix.def, right ids, left ids, the costs of each right id in turn)
+    // (what, matrix.def, right ids, left ids, the costs by right id, then by left id)
     ("asymmetric_matrix", "2 3\n0 2 100\n1 0 9\n", 2, 3, b"\0\0\0\0\x64\0\x09\0\0\0\0\0"),
     ("negative cost", "2 2\n0 0 -434\n", 2, 2, b"\x4e\xfe\0\0\0\0\0\0"),
     ("a pair twice", "2 2\n0 1 3\n0 1 4\n", 2, 2, b"\0\0\x04\0\0\0\0\0"),
 ];
 
-/// Whether a dictionary has these sizes and the entry of its one surface.
+/// Returns whether `dict` has the sizes `sizes` and the entry of its only surface.
 fn has_sizes(dict: &Dict, sizes: MatrixSizes) -> bool {
     dict.matrix_sizes() == sizes && are_entries(dict, "も", &[(0, 1, 1, 20, "X")])
 }
 
-/// Whether the dictionary of a connection table has these sizes and costs, and the entry of its one surface.
+/// Returns whether the dictionary of `matrix` has these sizes and costs, and the entry of its only
+/// surface.
 fn has_costs(alloc: Global, matrix: &str, sizes: MatrixSizes, costs: &[u8]) -> Result<bool, Fail> {
     let lexicons = ["も,1,1,20,X\n".as_bytes()];
     let sources = Sources {

@@ -1,14 +1,15 @@
-//! Lexicons one behind another, and all sources together.
+//! Several lexicons, and all sources together.
 use super::watched::{Told, compiled_with};
 use crate::tests::samples::{compiled_of, with_lexicons};
-use dict_compile::Step;
+use dict_compile::CompileStep;
 use lex_source::SourceLexicon;
 use mj_model::SourceKind::{self, BadNumber, IdOutside, MissingCategory};
 use mj_model::{MatrixSizes, SourceFault, Sources};
 use std::alloc::Global;
 use std::test::Fail;
 
-/// How many entries and skipped lines two lexicons have within 2 right ids and 3 left ids.
+/// Returns the number of entries and of skipped lines of two lexicons, for 2 right ids and 3 left
+/// ids.
 fn counts(alloc: Global, first: &str, second: &str) -> Result<(u64, u128), SourceFault> {
     let lexicons = [first.as_bytes(), second.as_bytes()];
     let sources = Sources {
@@ -19,7 +20,7 @@ fn counts(alloc: Global, first: &str, second: &str) -> Result<(u64, u128), Sourc
     Ok((compiled.entries, compiled.skipped))
 }
 
-/// The line of the last entry of two lexicons, in the order of the surfaces.
+/// Returns the line of the last entry of two lexicons, sorted by surface.
 fn last_line(alloc: Global, first: &str, second: &str) -> Result<Option<u64>, Fail> {
     let mut lexicon = SourceLexicon::new(alloc, MatrixSizes { right: 2, left: 3 });
     lexicon.add(alloc, first.as_bytes(), 3)?;
@@ -31,7 +32,8 @@ fn last_line(alloc: Global, first: &str, second: &str) -> Result<Option<u64>, Fa
 /// Lexicons that are accepted.
 #[rattlefmt::skip]
 static ACCEPTED: [(&str, &str, &str, u64, Option<u64>, u128); 4] = [
-    // (what, the two lexicons, how many records, the line of the last one, how many skipped lines)
+    // (what, the two lexicons, number of records, the line of the last one, number of skipped
+    // lines)
     ("empty_lexicon", "", "", 0, None, 0),
     ("lexicon_lines", "\n,1,1,5,X\nも,1,1,20,Y\r\n", "", 1, Some(3), 1),
     ("greatest ids", "も,2,1,20,X\n", "も,0,0,20,X\n", 2, Some(1), 0),
@@ -49,7 +51,7 @@ fn accepted_lexicons(rt: HostRuntime) -> Result<(), Fail> {
     Ok(())
 }
 
-/// Lexicons that are refused.
+/// Lexicons that are rejected.
 #[rattlefmt::skip]
 static REFUSED: [(&str, &str, &str, u32, u64, SourceKind); 4] = [
     // (what, the two lexicons, file, line, kind)
@@ -70,32 +72,33 @@ fn refused_lexicons(rt: HostRuntime) {
 /// Unknown entries of both categories.
 const UNKNOWN: &str = "DEFAULT,1,2,9,X\nSPACE,0,0,9,X\n";
 
-/// A fault's kind, file and line.
+/// The kind, file and line of an error.
 type At = (SourceKind, u32, u64);
 
-/// The fault, if there is one.
+/// Returns the error at `at`, if there is one.
 fn fault_at(at: Option<At>) -> Option<SourceFault> {
     let (kind, file, line) = at?;
     Some(kind.at(file, line))
 }
 
-/// The first steps of those sources that are accepted.
-static FIRST_STEPS: [Step; 2] = [
-    Step::MatrixRead(MatrixSizes { right: 3, left: 3 }),
-    Step::CategoriesRead(2),
+/// The first steps if the sources are accepted.
+static FIRST_STEPS: [CompileStep; 2] = [
+    CompileStep::MatrixRead(MatrixSizes { right: 3, left: 3 }),
+    CompileStep::CategoriesRead(2),
 ];
 
 /// Sources of two categories.
 #[rattlefmt::skip]
 static ALL_SOURCES: [(&str, &str, &str, Option<At>); 4] = [
-    // (what, unk.def, lexicon, the fault)
+    // (what, unk.def, lexicon, the error)
     ("accepted", UNKNOWN, "も,2,1,20,X\n,1,1,1,X\n", None),
     ("an unknown id", "DEFAULT,1,2,9,X\nSPACE,3,0,9,X\n", "も,3,1,20,X\n", Some((IdOutside, 2, 2))),
     ("no unknown SPACE", "DEFAULT,1,2,9,X\n", "", Some((MissingCategory(1), 2, 0))),
     ("an id", "DEFAULT,1,1,9,X\nSPACE,0,0,9,X\n", "も,1,3,20,X\n", Some((IdOutside, 3, 1))),
 ];
 
-/// Whether the sources with these two are accepted with one entry and one skipped line, or have this fault.
+/// Returns whether the sources are accepted with one entry and one skipped line, or have the error
+/// `expected`.
 fn are_as(alloc: Global, unknown: &str, lexicon: &str, expected: Option<At>) -> bool {
     let sources = Sources {
         matrix: b"3 3\n0 2 100\n",

@@ -11,12 +11,14 @@ use mj_model::{MatrixSizes, NO_FILE, SourceFault, Sources, sample};
 use std::alloc::{Alloc, Global};
 use std::process::Abort;
 use std::test::Fail;
-use test_words::{FaultRow, expect_told};
+use test_support::text::{FaultRow, expect_printed};
 
 const LINE: &str = "もも,1,1,1,名詞,ユーザ\n";
 
-/// What a user dictionary of two lexicons has: how many entries, how many skipped lines, and whether it is one for the system's ids,
-/// with these entries of a key.
+/// Compiles a user dictionary of two lexicons.
+///
+/// Returns the number of entries, the number of skipped lines, and whether it is a user dictionary
+/// for the sizes of `system` that has `entries` at `key`.
 fn compiled(
     alloc: Global,
     system: &Dict,
@@ -34,19 +36,21 @@ fn compiled(
     Ok((count, skipped, same))
 }
 
-/// Two lexicons, and what their dictionary has.
+/// Pairs of lexicons, and their dictionaries.
 #[rattlefmt::skip]
 static USERS: [(&str, &str, &str, u64, u128, &str, &[Expected]); 6] = [
-    // (what, the two lexicons, how many entries, how many skipped lines, a key, its entries)
+    // (what, the two lexicons, number of entries, number of skipped lines, a key, its entries)
     ("user_dictionary", LINE, "", 1, 0, "もも", &[(0, 1, 1, 1, "名詞,ユーザ")]),
     ("no entry of the system", LINE, "", 1, 0, "も", NONE),
-    ("one surface in each", "b,1,1,9,Z\na,0,1,30,Y\n", "a,1,0,-5,X\n", 3, 0, "a", &[(0, 0, 1, 30, "Y"), (1, 1, 0, -5, "X")]),
+    ("one surface in each", "b,1,1,9,Z\na,0,1,30,Y\n", "a,1,0,-5,X\n", 3, 0, "a",
+        &[(0, 0, 1, 30, "Y"), (1, 1, 0, -5, "X")]),
     ("empty lexicons", "", "", 0, 0, "もも", NONE),
-    ("skipped lines in both", ",1,1,5,X\n,1,1,5,X\n", "a,1,1,5,X\n,1,1,5,X\n", 1, 3, "a", &[(0, 1, 1, 5, "X")]),
+    ("skipped lines in both", ",1,1,5,X\n,1,1,5,X\n", "a,1,1,5,X\n,1,1,5,X\n", 1, 3, "a",
+        &[(0, 1, 1, 5, "X")]),
     ("a byte order mark is a surface's", "\u{feff}a,1,1,5,X\n", "", 1, 0, "a", NONE),
 ];
 
-/// Asks what the users' dictionaries for a system have.
+/// Checks the user dictionaries for `system`.
 fn expect_users(rt: &(impl Abort + Alloc<A = Global>), system: &Dict) -> Result<(), Fail> {
     for (what, first, second, count, skipped, key, entries) in &USERS {
         let answer = compiled(rt.alloc(), system, first, second, key, entries)?;
@@ -62,7 +66,7 @@ fn user_dictionary(rt: HostRuntime) -> Result<(), Fail> {
 
 const ACCEPTED: &str = "もも,2,1,1,X\n";
 
-/// Two lexicons that are refused.
+/// Pairs of lexicons that are rejected.
 #[rattlefmt::skip]
 static REFUSED: [(&str, &str, &str, u32, u64, SourceKind); 4] = [
     // (what, the two lexicons, file, line, kind)
@@ -72,7 +76,7 @@ static REFUSED: [(&str, &str, &str, u32, u64, SourceKind); 4] = [
     ("in both",               "もも,1,1,1\n", "もも,1,1,x,X\n",           3, 1, TooFewFields),
 ];
 
-/// The fault of two lexicons for a system, if they have one.
+/// Returns the error of two lexicons for `system`, if there is one.
 fn fault_of_two(
     alloc: Global,
     system: &Dict,
@@ -82,7 +86,7 @@ fn fault_of_two(
     user_of(alloc, system, &[first.as_bytes(), second.as_bytes()]).err()
 }
 
-/// The dictionary of a system of 2 right ids and 3 left ids.
+/// Returns a system dictionary with 2 right ids and 3 left ids.
 fn system_2_3(alloc: Global) -> Result<Dict, Fail> {
     let sources = Sources {
         matrix: b"2 3\n",
@@ -91,13 +95,13 @@ fn system_2_3(alloc: Global) -> Result<Dict, Fail> {
     Ok(dict_of(alloc, compiled_of(alloc, &sources)?.image)?)
 }
 
-/// The user dictionary of a lexicon for a system.
+/// Returns the user dictionary of `lexicon` for `system`.
 fn user_dict(alloc: Global, system: &Dict, lexicon: &str) -> Result<Dict, Fail> {
     let compiled = user_of(alloc, system, &[lexicon.as_bytes()])?;
     Ok(dict_of(alloc, compiled.image)?)
 }
 
-/// Asks for the faults of lexicons for a system.
+/// Checks the errors of lexicons for `system`.
 fn expect_refused(rt: &(impl Abort + Alloc<A = Global>), system: &Dict) {
     for (what, first, second, file, line, kind) in &REFUSED {
         let fault = fault_of_two(rt.alloc(), system, first, second);
@@ -114,7 +118,7 @@ fn refused_lexicons(rt: HostRuntime) -> Result<(), Fail> {
     Ok(())
 }
 
-/// Lexicons for a user dictionary.
+/// Lexicons for a user dictionary in place of a system dictionary.
 #[rattlefmt::skip]
 static LEXICONS: [(&str, &str); 2] = [
     // (what, lexicon)
@@ -132,19 +136,22 @@ fn for_a_user_dictionary(rt: HostRuntime) -> Result<(), Fail> {
     Ok(())
 }
 
-/// Faults with their codes, names and texts.
+/// Errors with their codes, names and texts.
 #[rattlefmt::skip]
 static FAULTS: [FaultRow<CompileUserFault>; 6] = [
-    // (fault, code, name, text)
+    // (error, code, name, text)
     (NotSystem, "O1", "NotSystem", "O1 NotSystem"),
-    (Source(SourceFault { file: 3, line: 1, kind: NotUtf8 }), "S1", "NotUtf8", "file 3, line 1: S1 NotUtf8"),
-    (Source(SourceFault { file: 4, line: 7, kind: IdOutside }), "I1", "IdOutside", "file 4, line 7: I1 IdOutside"),
+    (Source(SourceFault { file: 3, line: 1, kind: NotUtf8 }), "S1", "NotUtf8",
+        "file 3, line 1: S1 NotUtf8"),
+    (Source(SourceFault { file: 4, line: 7, kind: IdOutside }), "I1", "IdOutside",
+        "file 4, line 7: I1 IdOutside"),
     (Source(OF_ARRAY), "I2", "ArrayFull", "file 4294967295, line 0: I2 ArrayFull"),
     (Source(OF_FEATURES), "I3", "FeaturesTooLarge", "file 4294967295, line 0: I3 FeaturesTooLarge"),
-    (Source(SourceFault { file: 3, line: 1, kind: Memory }), "Memory", "Memory", "file 3, line 1: Memory"),
+    (Source(SourceFault { file: 3, line: 1, kind: Memory }), "Memory", "Memory",
+        "file 3, line 1: Memory"),
 ];
 
-/// Faults of the lexicons together, which belong to no file.
+/// Errors of the lexicons as a whole, which belong to no file.
 const OF_ARRAY: SourceFault = SourceFault {
     file: NO_FILE,
     line: 0,
@@ -158,5 +165,5 @@ const OF_FEATURES: SourceFault = SourceFault {
 
 #[test]
 fn codes_names_and_texts(rt: HostRuntime) -> Result<(), Fail> {
-    expect_told(rt.alloc(), &FAULTS)
+    expect_printed(rt.alloc(), &FAULTS)
 }

@@ -1,10 +1,10 @@
-//! What whoever watches a compilation is told.
+//! The steps that a compilation reports.
 
 ghost use Rattle.std.specs.Prelude.{◌≡◌, false};
 
 use crate::tests::samples::{sample_dict, with_lexicons};
 use dict_compile::{
-    Compiled, OtherSources, Step, Watch, compile_others_watched, compile_user_watched,
+    CompileStep, Compiled, OtherSources, Watch, compile_others_watched, compile_user_watched,
     compile_watched,
 };
 use matrix_def::read_matrix;
@@ -12,58 +12,58 @@ use mj_model::{MatrixSizes, SourceFault, Sources};
 use std::alloc::Global;
 use std::test::Fail;
 
-/// The steps so far.
+/// The steps reported so far.
 #[derive(Drop)]
 pub struct Told {
-    pub steps: Vec<Step>,
-    refused: bool,
+    pub steps: Vec<CompileStep>,
+    rejected: bool,
 }
 
 impl Told {
     pub fn nothing(alloc: Global) -> Told {
         Told {
             steps: Vec::new(alloc),
-            refused: false,
+            rejected: false,
         }
     }
 }
 
 impl Watch for Told {
-    ghost told = { λ t steps. t.refused ≡ false → t.steps.items ≡ steps };
+    ghost reported = { λ t steps. t.rejected ≡ false → t.steps.items ≡ steps };
 
-    fn done(&mut self, step: Step) {
-        self.refused |= self.steps.push(step).is_err();
+    fn done(&mut self, step: CompileStep) {
+        self.rejected |= self.steps.push(step).is_err();
     }
 }
 
 const LEXICONS: &[&[u8]] = &[b"a,1,1,5,X\nb,1,1,5,X\n,1,1,5,X\n", b"c,1,1,5,X\n"];
 
-/// The steps of a system before its lexicons.
-static BEFORE: [Step; 3] = [
-    Step::MatrixRead(MatrixSizes { right: 2, left: 2 }),
-    Step::CategoriesRead(6),
-    Step::UnknownRead,
+/// The steps of a system dictionary before its lexicons.
+static BEFORE: [CompileStep; 3] = [
+    CompileStep::MatrixRead(MatrixSizes { right: 2, left: 2 }),
+    CompileStep::CategoriesRead(6),
+    CompileStep::UnknownRead,
 ];
 
 /// The steps of the lexicons.
-static READ: [Step; 3] = [
-    Step::LexiconRead { entries: 2 },
-    Step::LexiconRead { entries: 3 },
-    Step::Sorted { entries: 3 },
+static READ: [CompileStep; 3] = [
+    CompileStep::LexiconRead { entries: 2 },
+    CompileStep::LexiconRead { entries: 3 },
+    CompileStep::Sorted { entries: 3 },
 ];
 
-/// The step of the first lexicon where the second one is at fault.
-static FIRST_READ: [Step; 1] = [Step::LexiconRead { entries: 1 }];
+/// The step of the first lexicon if the second one has an error.
+static FIRST_READ: [CompileStep; 1] = [CompileStep::LexiconRead { entries: 1 }];
 
-/// Whether these are the steps, one list behind another.
-fn are_steps(told: &Told, before: &[Step], then: &[Step]) -> bool {
-    !told.refused
+/// Returns whether the reported steps are `before` and then `then`.
+fn are_steps(told: &Told, before: &[CompileStep], then: &[CompileStep]) -> bool {
+    !told.rejected
         && told.steps.len() == before.len().saturating_add(then.len())
         && told.steps.starts_with(before)
         && told.steps.ends_with(then)
 }
 
-/// What is compiled of sources, with the steps.
+/// Compiles `sources`, and records the steps in `told`.
 pub fn compiled_with(
     alloc: Global,
     sources: &Sources<'_>,
@@ -80,7 +80,7 @@ fn steps_of_a_system(rt: HostRuntime) -> Result<(), Fail> {
     Ok(())
 }
 
-/// How many entries and skipped lines are compiled where the costs were read before.
+/// Returns the number of entries and of skipped lines if the costs have already been read.
 fn counts_with_costs(alloc: Global, told: &mut Told) -> Result<(u64, u128), Fail> {
     let Sources {
         matrix,

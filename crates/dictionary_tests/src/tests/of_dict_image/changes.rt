@@ -1,4 +1,4 @@
-//! Changes of images, and the faults that are told of them.
+//! Changes of images, and their errors.
 use super::checked_system::{ONE_RANGE, one_category};
 use super::images::{Change, changed, sealed, user_body, user_image};
 use crate::tests::samples::{dict_of, fault_of};
@@ -11,25 +11,27 @@ use std::alloc::{Alloc, AllocError, Global};
 use std::process::Abort;
 use std::test::Fail;
 
-/// Which image is changed.
+/// The image that is changed.
 #[derive(Clone, Copy)]
 pub(crate) enum Changed {
-    /// The user image of layout 1 with the one surface `もも`.
+    /// The user image of layout 1 with the single surface `もも`.
     Layout1,
-    /// The user image of layout 2 with the one surface `a`. Cell n stands at byte 104 + 8 n.
+    /// The user image of layout 2 with the single surface `a`. Cell n is at byte 104 + 8 n.
     Layout2,
-    /// The user image of layout 3 with the one surface `a`, before its digest is made.
+    /// The user image of layout 3 with the single surface `a`. Its checksum is computed after the
+    /// change.
     Layout3,
-    /// The same with its digest.
+    /// The user image of layout 3 with the single surface `a`. Its checksum is computed before the
+    /// change.
     Sealed,
-    /// The system image with one category, before its digest is made.
+    /// The system image with one category. Its checksum is computed after the change.
     System,
 }
 
-/// What is changed, the bytes from a place on, and the fault that is told of it.
+/// A label, the changed bytes with their positions, and the error.
 pub(crate) type Row = (&'static str, &'static [Change<'static>], Option<ImageFault>);
 
-/// Changes of the header of a user image, which mean the same in each layout.
+/// Changes of the header of a user image. They have the same effect in each layout.
 #[rattlefmt::skip]
 static HEADERS: [Row; 14] = [
     ("no change",                    &[],                None),
@@ -48,25 +50,25 @@ static HEADERS: [Row; 14] = [
     ("section 5 beyond any memory",  &[(79, b"\xff")],   Some(Truncated)),
 ];
 
-/// The changes of a header. Who calls this does not have them in its own proof.
+/// Returns the changes of a header. A call keeps the table out of the caller's proof.
 pub(crate) fn headers() -> &'static [Row] {
     &HEADERS
 }
 
-/// Cell 50 is (3, 99), and cell 3 is its end: (-1, 50). Value 0 stands there too.
+/// Cell 50 is (3, 99), and its value cell 3 is (-1, 50). So two cells hold value 0.
 const VALUE_IN_3: &[Change<'_>] = &[
     (504, b"\x03\0\0\0\x63\0\0\0"),
     (128, b"\xff\xff\xff\xff\x32\0\0\0"),
 ];
 
-/// Cell 98 is (2, 0), and cell 2 is its end: (-1, 98). Value 0 stands there too.
+/// Cell 98 is (2, 0), and its value cell 2 is (-1, 98). So two cells hold value 0.
 const VALUE_IN_2: &[Change<'_>] = &[
     (120, b"\xff\xff\xff\xff\x62\0\0\0"),
     (888, b"\x02\0\0\0\0\0\0\0"),
 ];
 
-/// Changes of the cells of the user image with the one surface `a`, which mean the same in layouts 2 and 3. Section 5 begins at byte 104, so that
-/// cell n stands at 104 + 8 n.
+/// Changes of the cells of the user image with the single surface `a`. They have the same effect in
+/// layouts 2 and 3. Section 5 starts at byte 104, so that cell n is at 104 + 8 n.
 #[rattlefmt::skip]
 static CELLS: [Row; 12] = [
     ("cell 1 is (-1, 98)",       &[(112, b"\xff\xff\xff\xff\x62\0\0\0")], Some(BadSection(5))),
@@ -83,15 +85,16 @@ static CELLS: [Row; 12] = [
     ("half a cell at the end",   &[(72, b"\x1c"), (80, b"\x0c")],       Some(BadSection(5))),
 ];
 
-/// The changes of cells. Who calls this does not have them in its own proof.
+/// Returns the changes of cells. A call keeps the table out of the caller's proof.
 pub(crate) fn cells() -> &'static [Row] {
     &CELLS
 }
 
-/// Changes of what stands behind the keys of a user image: of its one group, its token and its feature. They mean the same in each layout.
+/// Changes of the only group, token and feature of a user image. They have the same effect in each
+/// layout.
 #[rattlefmt::skip]
 static TOKENS: [(&str, Change<'_>, Option<ImageFault>); 9] = [
-    // (what, the place behind the keys and the bytes there, the fault)
+    // (what, the position after the keys and the new bytes there, the error)
     ("group 0 from token 1",  (0, b"\x01"),  Some(BadSection(6))),
     ("group 0 up to token 2", (4, b"\x02"),  Some(BadSection(6))),
     ("left id 2",             (8, b"\x02"),  Some(BadToken(0))),
@@ -103,7 +106,7 @@ static TOKENS: [(&str, Change<'_>, Option<ImageFault>); 9] = [
     ("feature not UTF-8",     (24, b"\x80"), Some(BadText(0))),
 ];
 
-/// The bytes of an image that are changed.
+/// Returns the bytes that are changed.
 fn body_of(alloc: Global, image: Changed) -> Result<Vec<u8>, AllocError> {
     match image {
         Layout1 => user_body(alloc, 1),
@@ -114,7 +117,7 @@ fn body_of(alloc: Global, image: Changed) -> Result<Vec<u8>, AllocError> {
     }
 }
 
-/// An image with changes, and with its digest where that is made last.
+/// Returns `image` with `changes`, and then with its checksum if that is computed last.
 fn image_with(
     alloc: Global,
     image: Changed,
@@ -127,7 +130,7 @@ fn image_with(
     Ok(bytes)
 }
 
-/// The fault of an image with changes.
+/// Returns the error of loading `image` with `changes`.
 fn fault_with(
     alloc: Global,
     image: Changed,
@@ -136,7 +139,7 @@ fn fault_with(
     Ok(fault_of(alloc, image_with(alloc, image, changes)?))
 }
 
-/// The dictionary of an image with changes.
+/// Loads `image` with `changes`.
 pub(crate) fn dict_with(
     alloc: Global,
     image: Changed,
@@ -145,7 +148,7 @@ pub(crate) fn dict_with(
     Ok(dict_of(alloc, image_with(alloc, image, changes)?)?)
 }
 
-/// Asks for the fault of an image with the changes of each row.
+/// Checks the error of `image` with the changes of each test case.
 pub(crate) fn expect_faults(
     rt: &(impl Abort + Alloc<A = Global>),
     image: Changed,
@@ -158,7 +161,7 @@ pub(crate) fn expect_faults(
     Ok(())
 }
 
-/// Asks for the faults of a user image with changes behind its keys, which end at this place.
+/// Checks the errors of a user image with changes after its keys, which end at `keys_end`.
 pub(crate) fn expect_token_faults(
     rt: &(impl Abort + Alloc<A = Global>),
     image: Changed,

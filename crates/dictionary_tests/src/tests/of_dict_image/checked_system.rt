@@ -6,10 +6,10 @@ use mj_model::ImageFault::{self, BadSection, BadText, BadToken};
 use std::alloc::{AllocError, Global};
 use std::test::Fail;
 
-/// The categories of all code points.
+/// The range of all code points.
 pub(crate) const ONE_RANGE: &[u8] = b"\0\0\0\0\x01\0\0\0";
 
-/// The image without its digest, with these ranges as section 3.
+/// Returns the image without its checksum, with `ranges` as section 3.
 pub(crate) fn one_category(alloc: Global, ranges: &[u8]) -> Result<Vec<u8>, AllocError> {
     let categories = b"\0\x01\0\x07DEFAULT";
     let index = b"\0\0\0\0\x01\0\0\0";
@@ -51,7 +51,7 @@ fn changes_of_sections(rt: HostRuntime) -> Result<(), Fail> {
 /// Sections of ranges.
 #[rattlefmt::skip]
 static RANGES: [(&str, &[u8], Option<ImageFault>); 9] = [
-    // (what, section 3, the fault)
+    // (what, section 3, the error)
     ("two ranges", b"\0\0\0\0\x01\0\0\0\xff\xff\x10\0\x01\0\0\0", None),
     ("none", b"", Some(BadSection(3))),
     ("half a range", b"\0\0\0\0", Some(BadSection(3))),
@@ -63,7 +63,7 @@ static RANGES: [(&str, &[u8], Option<ImageFault>); 9] = [
     ("category 1 in the set", b"\0\0\0\0\x03\0\0\0", Some(BadSection(3))),
 ];
 
-/// The fault of the image with these ranges, and with its digest.
+/// Returns the error of loading the image with `ranges` and its checksum.
 fn fault_of_ranges(alloc: Global, ranges: &[u8]) -> Result<Option<ImageFault>, AllocError> {
     let body = one_category(alloc, ranges)?;
     Ok(fault_of(alloc, sealed(alloc, &body)?))

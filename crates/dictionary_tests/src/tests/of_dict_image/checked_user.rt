@@ -1,11 +1,11 @@
-//! The user image of layout 3 with the one surface `a`, and its changes.
+//! The user image of layout 3 with the single surface `a`, and its changes.
 use super::changes::{Changed, Row, cells, expect_faults, expect_token_faults, headers};
 use super::images::{user_body, user_image};
 use crate::tests::samples::{fault_of_front, fault_of_longer};
 use mj_model::ImageFault::{BadSection, Digest, Truncated};
 use std::test::Fail;
 
-/// Changes of the image, sealed by a digest of their own.
+/// Changes of the image whose checksum is computed after the change.
 #[rattlefmt::skip]
 static CHANGES: [Row; 2] = [
     ("layout 1, with 32 bytes behind it", &[(8, b"\x01")], Some(BadSection(9))),
@@ -22,7 +22,7 @@ fn changes_before_the_digest(rt: HostRuntime) -> Result<(), Fail> {
     expect_faults(&rt, Changed::Layout3, &CHANGES)
 }
 
-/// Changes of the image, with its first digest.
+/// Changes of the image that keep its old checksum.
 #[rattlefmt::skip]
 static BEHIND_THE_DIGEST: [Row; 6] = [
     ("kind",                     &[(12, b"\0")],            Some(Digest)),
@@ -38,7 +38,7 @@ fn changes_behind_the_digest(rt: HostRuntime) -> Result<(), Fail> {
     expect_faults(&rt, Changed::Sealed, &BEHIND_THE_DIGEST)
 }
 
-/// Lengths that are less than the image's.
+/// Lengths that are shorter than the image.
 static LENGTHS: [usize; 6] = [0, 103, 104, 928, 929, 960];
 
 #[test]

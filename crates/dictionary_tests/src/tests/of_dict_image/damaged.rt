@@ -1,13 +1,14 @@
-//! Images that are cut, or of which one byte is changed: each answer is the plain reader's.
+//! Truncated images, and images with one changed byte. The loader must agree with the plain reader
+//! on each.
 use super::images::user_image;
+use super::lookups::answers_all;
 use super::plain_reader::{first_fault, frame_fault};
-use super::questions::answers_all;
 use crate::tests::samples::{dict_of, fault_of, fault_of_front, with_byte};
 use mj_model::ImageFault::{self, BadMagic, BadSection, Digest, Truncated};
 use std::alloc::{AllocError, Global};
 use std::test::Fail;
 
-/// The first length to which an image can be cut so that it is not told as cut.
+/// Returns the shortest length of a truncated image that is not reported as truncated.
 fn accepted_front(alloc: Global, bytes: &[u8]) -> Result<Option<usize>, AllocError> {
     for length in 0..bytes.len() {
         if fault_of_front(alloc, bytes, length)? != Some(Truncated) {
@@ -30,7 +31,8 @@ fn shorter_images(rt: HostRuntime) -> Result<(), Fail> {
     Ok(())
 }
 
-/// Whether the answer to an image is the plain reader's, and a dictionary answers every question.
+/// Returns whether the loader agrees with the plain reader on `image`, and its dictionary passes
+/// all lookups.
 fn answers_plainly(alloc: Global, image: &[u8]) -> Result<bool, AllocError> {
     let expected = first_fault(alloc, image)?;
     Ok(match dict_of(alloc, Vec::from_slice(alloc, image)?) {
@@ -39,7 +41,8 @@ fn answers_plainly(alloc: Global, image: &[u8]) -> Result<bool, AllocError> {
     })
 }
 
-/// The place of the first byte whose change to this value is answered otherwise than by the plain reader.
+/// Returns the first position at which the loader disagrees with the plain reader after a change to
+/// `byte`.
 fn other_answer(alloc: Global, bytes: &[u8], byte: u8) -> Result<Option<usize>, AllocError> {
     for place in 0..bytes.len() {
         if !answers_plainly(alloc, &with_byte(alloc, bytes, place, byte)?)? {
@@ -49,7 +52,8 @@ fn other_answer(alloc: Global, bytes: &[u8], byte: u8) -> Result<Option<usize>, 
     Ok(None)
 }
 
-/// The place of the first byte whose change to one of these values is answered otherwise than by the plain reader, and the value.
+/// Returns the first position at which the loader disagrees with the plain reader after a change to
+/// one of four values, and that value.
 fn other_answer_to_any(alloc: Global, bytes: &[u8]) -> Result<Option<(usize, u8)>, AllocError> {
     for byte in [0, 1, 0x80, 0xff] {
         if let Some(place) = other_answer(alloc, bytes, byte)? {
@@ -73,8 +77,9 @@ fn changed_bytes_of_layout_2(rt: HostRuntime) -> Result<(), Fail> {
     Ok(())
 }
 
-/// The fault of the layout 3 image after a change at a place. The magic, the layout and the lengths of the sections are looked at
-/// before the digest.
+/// Returns the error of the image of layout 3 after a change at `place`.
+///
+/// The magic, the layout and the lengths of the sections are checked before the checksum.
 fn fault_at(place: usize, changed: &[u8]) -> Option<ImageFault> {
     match place {
         0..=7 => Some(BadMagic),
@@ -83,7 +88,7 @@ fn fault_at(place: usize, changed: &[u8]) -> Option<ImageFault> {
     }
 }
 
-/// Whether the layout 3 image with another byte at a place is refused, for that fault.
+/// Returns whether the image of layout 3 with `byte` at `place` is rejected for that error.
 fn is_refused_with(
     alloc: Global,
     image: &[u8],
@@ -103,13 +108,14 @@ fn flipped_bits_of_layout_3(rt: HostRuntime) -> Result<(), Fail> {
         let is_refused = is_refused_with(rt.alloc(), &bytes, place, *byte ^ 1)?;
         assert!(rt; is_refused, "{place}");
     }
-    // Layout 2 has no digest.
+    // Layout 2 has no checksum.
     let layout_2 = with_byte(rt.alloc(), &bytes, 8, 2)?;
     assert_eq!(rt; fault_of(rt.alloc(), layout_2), Some(BadSection(9)));
     Ok(())
 }
 
-/// The place of the first byte of the layout 3 image that differs from this value and whose change to it is not refused as it should be.
+/// Returns the first position at which the image of layout 3 is not rejected as it should be after
+/// a change to `byte`.
 fn other_fault(alloc: Global, image: &[u8], byte: u8) -> Result<Option<usize>, AllocError> {
     for (place, old) in image.iter().enumerate() {
         if *old != byte && !is_refused_with(alloc, image, place, byte)? {

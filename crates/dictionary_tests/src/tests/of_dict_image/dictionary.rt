@@ -1,18 +1,18 @@
-//! The user image of layout 3 with the one surface `a`.
+//! The user image of layout 3 with the single surface `a`.
 use super::images::user_image;
-use super::questions::{are_prefixes, is_user_with};
+use super::lookups::{are_prefixes, is_user_with};
 use crate::tests::samples::{Expected, NONE, are_entries, dict_of, fault_of};
 use dict_image::Dict;
 use mj_model::ImageFault;
 use std::alloc::{AllocError, Global};
 use std::test::Fail;
 
-/// The dictionary of the one surface `a`.
+/// Returns the dictionary of the single surface `a`.
 fn dict_of_a(alloc: Global) -> Result<Dict, Fail> {
     Ok(dict_of(alloc, user_image(alloc, 3)?)?)
 }
 
-/// Keys with their entries.
+/// Keys and their entries.
 #[rattlefmt::skip]
 static ENTRIES: [(&str, &[Expected]); 4] = [
     // (key, its entries)
@@ -32,10 +32,10 @@ fn entries_of_keys(rt: HostRuntime) -> Result<(), Fail> {
     Ok(())
 }
 
-/// Numbers of tokens, with their features.
+/// Tokens and their features.
 static FEATURES: [(u32, Option<&str>); 2] = [(0, Some("X")), (1, None)];
 
-/// The feature of a token of the lexicon, if it is there.
+/// Returns the feature of token `number` of the lexicon, if it exists.
 fn known_feature<'a>(dict: &'a Dict, number: u32) -> Option<&'a str> {
     let token = dict.known_token(number)?;
     Some(token.feature)
@@ -51,10 +51,11 @@ fn entries_of_numbers(rt: HostRuntime) -> Result<(), Fail> {
     Ok(())
 }
 
-/// Texts with the keys that begin them.
+/// Texts, and the keys that are prefixes of them.
 #[rattlefmt::skip]
 static TEXTS: [(&str, &[(usize, u32)], u64); 4] = [
-    // (text, the length of its one prefix and the number of its entry, the cells read: those of the steps on `b` are not there)
+    // (text, the length of its only prefix and its token, the number of cells read; those of `b`
+    // don't exist)
     ("ab", &[(1, 0)], 3),
     ("a", &[(1, 0)], 3),
     ("ba", &[], 1),
@@ -73,13 +74,13 @@ fn keys_that_begin_a_text(rt: HostRuntime) -> Result<(), Fail> {
 /// Images of another length, or with another byte.
 #[rattlefmt::skip]
 static REFUSED: [(&str, usize, &[u8], ImageFault); 3] = [
-    // (what, how many bytes stay, those that follow, the fault)
+    // (what, how many bytes are kept, the bytes after them, the error)
     ("the last byte left out", 960, b"",  ImageFault::Truncated),
     ("a byte more",            961, b"\0",          ImageFault::BadSection(9)),
     ("another last byte",      960, b"\0",          ImageFault::Digest),
 ];
 
-/// The fault of the first so many bytes of the image, with others behind them.
+/// Returns the error of loading the first `length` bytes of the image, followed by `more`.
 fn fault_with(alloc: Global, length: usize, more: &[u8]) -> Result<Option<ImageFault>, AllocError> {
     let mut bytes = user_image(alloc, 3)?;
     bytes.truncate(length);

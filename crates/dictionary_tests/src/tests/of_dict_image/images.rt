@@ -1,19 +1,21 @@
-//! Images and what they are made of.
+//! Images and their parts.
 use sha2::{Digest, Sha256};
 use std::alloc::{AllocError, Global};
 
-/// The user image of layout 1 with the one surface `もも`: 137 bytes, and the feature `X`.
+/// The user image of layout 1 with the single surface `もも`: 137 bytes, and the feature `X`.
 static LAYOUT_1: [u8; 137] =
     *b"MJDICT\r\n\x01\0\0\0\x01\0\0\0\x02\0\0\0\x02\0\0\0\0\0\0\0\x01\0\0\0\x01\0\0\0\0\0\0\0\
     \0\0\0\0\0\0\0\0\0\0\0\0\0\0\0\0\0\0\0\0\0\0\0\0\0\0\0\0\0\0\0\0\
     \x08\0\0\0\0\0\0\0\x08\0\0\0\0\0\0\0\x10\0\0\0\0\0\0\0\x01\0\0\0\0\0\0\0\
     \x06\0\xe3\x82\x82\xe3\x82\x82\0\0\0\0\x01\0\0\0\x01\0\x01\0\x01\0\0\0\0\0\0\0\x01\0\0\0X";
 
-/// Bytes that replace those from a place on.
+/// A position, and the bytes that replace those from it on.
 pub(crate) type Change<'a> = (usize, &'a [u8]);
 
-/// A header and sections. The numbers are the layout, the kind, the sizes R and F, and how many categories, groups, tokens and unknown
-/// tokens there are.
+/// Returns a header followed by sections.
+///
+/// `numbers` are the layout, the kind, the number of right ids and of left ids, and the number of
+/// categories, groups, tokens and unknown tokens.
 pub(crate) fn image(
     alloc: Global,
     numbers: [u32; 8],
@@ -33,7 +35,7 @@ pub(crate) fn image(
     Ok(bytes)
 }
 
-/// The bytes with some changes.
+/// Returns `bytes` with `changes`.
 pub(crate) fn changed(
     alloc: Global,
     bytes: &[u8],
@@ -52,7 +54,7 @@ pub(crate) fn changed(
     Ok(new)
 }
 
-/// The bytes with their digest behind them.
+/// Returns `bytes` followed by their checksum.
 pub(crate) fn sealed(alloc: Global, bytes: &[u8]) -> Result<Vec<u8>, AllocError> {
     let mut new = Vec::new(alloc);
     new.extend_from_slice(bytes)?;
@@ -60,8 +62,10 @@ pub(crate) fn sealed(alloc: Global, bytes: &[u8]) -> Result<Vec<u8>, AllocError>
     Ok(new)
 }
 
-/// The user image of a layout with one surface and the feature `X`, in layout 3 without its digest. In layout 1 the surface is `もも`. In the others it
-/// is `a`, and there are 929 bytes.
+/// Returns the user image of layout `layout` with one surface and the feature `X`. In layout 3 it
+/// lacks its checksum.
+///
+/// In layout 1 the surface is `もも`. In the others it is `a`, and the image has 929 bytes.
 pub(crate) fn user_body(alloc: Global, layout: u32) -> Result<Vec<u8>, AllocError> {
     match layout {
         1 => Vec::from_slice(alloc, &LAYOUT_1),
@@ -74,7 +78,8 @@ pub(crate) fn user_body(alloc: Global, layout: u32) -> Result<Vec<u8>, AllocErro
     }
 }
 
-/// The same, in layout 3 with its digest.
+/// Returns the user image of layout `layout` with one surface and the feature `X`. In layout 3 it
+/// has its checksum.
 pub(crate) fn user_image(alloc: Global, layout: u32) -> Result<Vec<u8>, AllocError> {
     let body = user_body(alloc, layout)?;
     if layout == 3 {
@@ -83,7 +88,9 @@ pub(crate) fn user_image(alloc: Global, layout: u32) -> Result<Vec<u8>, AllocErr
     Ok(body)
 }
 
-/// The user image of layout 3 with the one surface `a`, without its digest, with a token for each pair of where its feature begins and its length.
+/// Returns the user image of layout 3 with the single surface `a`, without its checksum.
+///
+/// It has one token for each item of `places`, which is the start and the length of its feature.
 pub(crate) fn one_surface_with(
     alloc: Global,
     places: &[(u8, u8)],
@@ -104,8 +111,8 @@ pub(crate) fn one_surface_with(
     image(alloc, [3, 1, 2, 2, 0, 1, count, 0], sections)
 }
 
-/// The cells of the one key `a`, of value 0. Cell 0 is (1, -2), cell 1 is (-1, 99), cell 99 is (1, 0), and the other ones of 100 are
-/// free.
+/// Returns the cells of the single key `a`, whose value is 0: cell 0 is (1, -2), cell 1 is (-1,
+/// 99), cell 99 is (1, 0), and the others of 100 are free.
 fn cells_of_a(alloc: Global) -> Result<Vec<u8>, AllocError> {
     let mut cells = Vec::new(alloc);
     for number in 0..100_u8 {

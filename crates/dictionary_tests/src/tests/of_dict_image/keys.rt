@@ -1,12 +1,12 @@
-//! User images whose cells are made by hand, and the group that has no key.
+//! User images whose cells are made by hand, and the group that has no valid key.
 use super::images::{image, sealed};
 use crate::tests::samples::fault_of;
 use mj_model::ImageFault::{self, BadKey};
 use std::alloc::{AllocError, Global};
 use std::test::Fail;
 
-/// A step from a state by a byte to a state. State 0 is cell 0, and the base of state s is
-/// 1 + 257 s, so that no two steps share a cell.
+/// A step: from a state, by a byte, to a state. State 0 is cell 0, and the base of state s is 1 +
+/// 257 s, so that no two steps share a cell.
 type Step = (u8, u8, u8);
 
 /// A state with a value, and its group.
@@ -16,12 +16,12 @@ fn base_of(state: u8) -> i64 {
     257 * i64::from(state) + 1
 }
 
-/// The cell to which a step leads.
+/// Returns the cell that a step leads to.
 fn cell_behind(from: u8, byte: u8) -> i64 {
     257 * i64::from(from) + i64::from(byte) + 2
 }
 
-/// The cell of a state.
+/// Returns the cell of `state`.
 fn cell_of(steps: &[Step], state: u8) -> i64 {
     for (from, byte, to) in steps {
         if *to == state {
@@ -31,7 +31,7 @@ fn cell_of(steps: &[Step], state: u8) -> i64 {
     0
 }
 
-/// The base and the check of a cell.
+/// Returns the base and the check of cell `number`.
 fn cell_at(steps: &[Step], values: &[Value], number: i64) -> (i64, i64) {
     if number == 0 {
         return (base_of(0), -2);
@@ -54,7 +54,7 @@ fn push_cell(bytes: &mut Vec<u8>, base: i64, check: i64) -> Result<(), AllocErro
     bytes.extend_from_slice(&check.to_le_bytes()[..4])
 }
 
-/// The cells of ten states.
+/// Returns the cells of ten states.
 fn cells_of(alloc: Global, steps: &[Step], values: &[Value]) -> Result<Vec<u8>, AllocError> {
     let mut bytes = Vec::new(alloc);
     for number in 0..2571_i64 {
@@ -64,8 +64,10 @@ fn cells_of(alloc: Global, steps: &[Step], values: &[Value]) -> Result<Vec<u8>, 
     Ok(bytes)
 }
 
-/// The cells of so many keys on one stem: the first is as many times U+0000, and each other one is one
-/// shorter. The state of n of them is cell 2 n, and its value stands in the next one.
+/// Returns the cells of `keys` keys that are prefixes of one another. Key `i` is U+0000 repeated
+/// `keys - i` times.
+///
+/// The state of n of them is cell 2 n, and its value is in the next cell.
 fn cells_of_nuls(alloc: Global, keys: u32) -> Result<Vec<u8>, AllocError> {
     let mut bytes = Vec::new(alloc);
     push_cell(&mut bytes, 1, -2)?;
@@ -78,7 +80,7 @@ fn cells_of_nuls(alloc: Global, keys: u32) -> Result<Vec<u8>, AllocError> {
     Ok(bytes)
 }
 
-/// A user image of these cells, with one token for each group.
+/// Returns a user image with `cells`, and with one token for each group.
 fn user_image(alloc: Global, groups: u32, cells: &[u8]) -> Result<Vec<u8>, AllocError> {
     let mut index = Vec::new(alloc);
     let mut tokens = Vec::new(alloc);
@@ -94,7 +96,7 @@ fn user_image(alloc: Global, groups: u32, cells: &[u8]) -> Result<Vec<u8>, Alloc
     )
 }
 
-/// The state to which a step leads from another one: one that is there, or a new one.
+/// Returns the state that a step leads to. Adds the step if it is missing.
 fn step(steps: &mut Vec<Step>, from: u8, byte: u8) -> Result<u8, AllocError> {
     for (before, label, to) in steps.iter() {
         if (*before, *label) == (from, byte) {
@@ -106,7 +108,7 @@ fn step(steps: &mut Vec<Step>, from: u8, byte: u8) -> Result<u8, AllocError> {
     Ok(to)
 }
 
-/// The state to which the bytes of a key lead. Steps that are missing are added.
+/// Returns the state that the bytes of `key` lead to. Adds the steps that are missing.
 fn add_key(steps: &mut Vec<Step>, key: &[u8]) -> Result<u8, AllocError> {
     let mut state = 0;
     for byte in key {
@@ -115,7 +117,7 @@ fn add_key(steps: &mut Vec<Step>, key: &[u8]) -> Result<u8, AllocError> {
     Ok(state)
 }
 
-/// The image of keys, of which each has the next group.
+/// Returns the image of `keys`, which have the groups 0, 1, 2 and so on.
 fn image_of_keys(alloc: Global, keys: &[&[u8]]) -> Result<Vec<u8>, AllocError> {
     let mut steps = Vec::new(alloc);
     let mut values = Vec::new(alloc);
@@ -127,10 +129,10 @@ fn image_of_keys(alloc: Global, keys: &[&[u8]]) -> Result<Vec<u8>, AllocError> {
     user_image(alloc, u32::from(group), &cells_of(alloc, &steps, &values)?)
 }
 
-/// Keys, of which one may be none that is allowed.
+/// Keys, of which one may be invalid.
 #[rattlefmt::skip]
 static KEYS: [(&str, &[&[u8]], Option<ImageFault>); 19] = [
-    // (what, the keys in the order of their groups, the fault)
+    // (what, the keys in the order of their groups, the error)
     ("a",                           &[b"a"],                               None),
     ("ab, a: one stem",             &[b"ab", b"a"],                        None),
     ("U+007F, U+0080",              &[b"\x7F", b"\xC2\x80"],               None),
@@ -161,7 +163,7 @@ fn keys_of_cells(rt: HostRuntime) -> Result<(), Fail> {
     Ok(())
 }
 
-/// Cells that lead to one another.
+/// Cells that form a cycle.
 #[rattlefmt::skip]
 static RINGS: [(&str, &[Step], &[Value], u32); 2] = [
     // (what, steps, values, the group without a key)
@@ -169,7 +171,7 @@ static RINGS: [(&str, &[Step], &[Value], u32); 2] = [
     ("a, and one on its own",   &[(0, b'a', 1), (2, b'b', 2)], &[(1, 0), (2, 1)], 1),
 ];
 
-/// The fault of the image of these steps and values.
+/// Returns the error of the image of these steps and values.
 fn fault_of_steps(
     alloc: Global,
     steps: &[Step],
@@ -189,10 +191,10 @@ fn states_in_a_ring(rt: HostRuntime) -> Result<(), Fail> {
     Ok(())
 }
 
-/// Numbers of keys on one stem.
+/// Numbers of keys that are prefixes of one another.
 #[rattlefmt::skip]
 static STEMS: [(u32, Option<ImageFault>); 5] = [
-    // (bytes of the longest key, the fault)
+    // (length of the longest key in bytes, the error)
     (1, None),
     (2, None),
     (65_535, None),
@@ -200,7 +202,7 @@ static STEMS: [(u32, Option<ImageFault>); 5] = [
     (70_000, Some(BadKey(0))),
 ];
 
-/// The fault of the image of so many keys on one stem.
+/// Returns the error of the image of `keys` keys that are prefixes of one another.
 fn fault_of_stem(alloc: Global, keys: u32) -> Result<Option<ImageFault>, AllocError> {
     let cells = cells_of_nuls(alloc, keys)?;
     Ok(fault_of(alloc, user_image(alloc, keys, &cells)?))

@@ -1,12 +1,12 @@
-//! The user image of layout 1 with the one surface `もも`, and its changes.
+//! The user image of layout 1 with the single surface `もも`, and its changes.
 use super::changes::{Changed, Row, dict_with, expect_faults, expect_token_faults, headers};
 use super::images::{Change, user_body};
-use super::questions::is_user_with;
+use super::lookups::is_user_with;
 use crate::tests::samples::{fault_of_front, fault_of_longer};
 use mj_model::ImageFault::{BadKey, BadSection, Truncated};
 use std::test::Fail;
 
-/// Changes of the image that name another layout, and other lengths of its keys, which begin at byte 104 and end at 112.
+/// Changes of the layout, and of the length of the keys, which lie from byte 104 to byte 112.
 #[rattlefmt::skip]
 static CHANGES: [Row; 5] = [
     ("layout 2: one cell, a bad root",   &[(8, b"\x02")],                Some(BadSection(5))),
@@ -26,7 +26,7 @@ fn changes_of_layout_1(rt: HostRuntime) -> Result<(), Fail> {
 /// Changes of the image that are accepted.
 #[rattlefmt::skip]
 static ACCEPTED: [(&str, Change<'_>, &str, i16); 2] = [
-    // (what, bytes from a place on, the key, the cost of its entry)
+    // (what, a position and the new bytes there, the key, the cost of its entry)
     ("cost 2",              (124, b"\x02"), "もも", 2),
     ("the key's last byte", (111, b"\x81"), "もめ", 1),
 ];

@@ -1,13 +1,13 @@
-//! The user image of layout 2 with the one surface `a`, and its changes.
+//! The user image of layout 2 with the single surface `a`, and its changes.
 use super::changes::{Changed, Row, cells, dict_with, expect_faults, expect_token_faults, headers};
 use super::images::{Change, image, user_body};
-use super::questions::is_user_with;
+use super::lookups::is_user_with;
 use crate::tests::samples::{fault_of, fault_of_front};
 use mj_model::ImageFault::{self, BadKey, BadSection, Truncated};
 use std::alloc::{AllocError, Global};
 use std::test::Fail;
 
-/// Changes of the image that name another layout.
+/// Changes of the layout.
 #[rattlefmt::skip]
 static CHANGES: [Row; 2] = [
     ("layout 1: cells are no keys", &[(8, b"\x01")], Some(BadSection(5))),
@@ -22,10 +22,11 @@ fn changes_of_layout_2(rt: HostRuntime) -> Result<(), Fail> {
     expect_faults(&rt, Changed::Layout2, &CHANGES)
 }
 
-/// A cell of which no key has need, and a ring of one state on no key. Layout 3 has the same cells.
+/// A cell that no key needs, and a cycle of one state that is on no key. Layout 3 has the same
+/// cells.
 #[rattlefmt::skip]
 static NEEDLESS: [(&str, Change<'_>); 2] = [
-    // (what, bytes from a place on)
+    // (what, a position and the new bytes there)
     ("cell 2 is (5, 99)",  (120, b"\x05\0\0\0\x63\0\0\0")),
     ("cell 50 is (1, 50)", (504, b"\x01\0\0\0\x32\0\0\0")),
 ];
@@ -41,7 +42,8 @@ fn needless_cells(rt: HostRuntime) -> Result<(), Fail> {
     Ok(())
 }
 
-/// The image with 200 cells. Cell 0 is (1, -2), cell 1 is (-1, s), cell s is (1, 0), and the other ones are free.
+/// Returns the image with 200 cells: cell 0 is (1, -2), cell 1 is (-1, `state`), cell `state` is
+/// (1, 0), and the others are free.
 fn with_state(alloc: Global, state: u8) -> Result<Vec<u8>, AllocError> {
     let mut cells = Vec::new(alloc);
     for number in 0..200_u8 {
@@ -63,7 +65,7 @@ fn with_state(alloc: Global, state: u8) -> Result<Vec<u8>, AllocError> {
 /// Keys of one byte.
 #[rattlefmt::skip]
 static STATES: [(&str, u8, Option<ImageFault>); 3] = [
-    // (what, the state of the key, the fault)
+    // (what, the state of the key, the error)
     ("the key 0x61", 99, None),
     ("the key 0x7F", 129, None),
     ("the key 0x80, which is not UTF-8", 130, Some(BadKey(0))),

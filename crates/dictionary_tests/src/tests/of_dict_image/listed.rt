@@ -1,13 +1,14 @@
 //! User images of layout 1 with several keys.
 use super::images::image;
-use super::questions::are_prefixes;
+use super::lookups::are_prefixes;
 use crate::tests::samples::{Expected, are_entries, dict_of, fault_of};
 use dict_image::Dict;
 use mj_model::ImageFault::{self, BadKey, BadSection};
 use std::alloc::{AllocError, Global};
 use std::test::Fail;
 
-/// The user image of a section 5 that is to list so many keys. Group i has the one token i, whose cost is i.
+/// Returns the user image with `keys` as section 5, which should list `groups` keys. Group i has
+/// the only token i, whose cost is i.
 fn with_keys(alloc: Global, groups: u8, keys: &[u8]) -> Result<Vec<u8>, AllocError> {
     let mut index = Vec::new(alloc);
     let mut tokens = Vec::new(alloc);
@@ -22,7 +23,7 @@ fn with_keys(alloc: Global, groups: u8, keys: &[u8]) -> Result<Vec<u8>, AllocErr
     image(alloc, [1, 1, 2, 2, 0, count, count, 0], sections)
 }
 
-/// The dictionary of a section 5 that lists five keys.
+/// Returns the dictionary of a section 5 that lists five keys.
 fn dict_with(alloc: Global, keys: &[u8]) -> Result<Dict, Fail> {
     Ok(dict_of(alloc, with_keys(alloc, 5, keys)?)?)
 }
@@ -30,10 +31,10 @@ fn dict_with(alloc: Global, keys: &[u8]) -> Result<Dict, Fail> {
 /// The five keys `a`, `ab`, `abc`, `b` and `もも`.
 const FIVE: &[u8] = b"\x01\0a\x02\0ab\x03\0abc\x01\0b\x06\0\xe3\x82\x82\xe3\x82\x82";
 
-/// Keys with their entries.
+/// Keys and their entries.
 #[rattlefmt::skip]
 static ENTRIES: [(&str, &[Expected]); 10] = [
-    // (key, its one entry)
+    // (key, its only entry)
     ("a",    &[(0, 1, 1, 0, "X")]),
     ("ab",   &[(1, 1, 1, 1, "X")]),
     ("abc",  &[(2, 1, 1, 2, "X")]),
@@ -55,10 +56,11 @@ fn entries_of_five_keys(rt: HostRuntime) -> Result<(), Fail> {
     Ok(())
 }
 
-/// Keys far behind the shorter ones that begin them: `a`, `aab`, `abc`, `abcd` and `c`.
+/// Keys that are far from the shorter ones that are their prefixes: `a`, `aab`, `abc`, `abcd` and
+/// `c`.
 const OTHERS: &[u8] = b"\x01\0a\x03\0aab\x03\0abc\x04\0abcd\x01\0c";
 
-/// Texts with the keys that begin them.
+/// Texts, and the keys that are prefixes of them.
 #[rattlefmt::skip]
 static PREFIXES: [(&[u8], &str, &[(usize, u32)]); 14] = [
     // (keys, text, the lengths of its prefixes, each with its token)
@@ -78,7 +80,7 @@ static PREFIXES: [(&[u8], &str, &[(usize, u32)]); 14] = [
     (OTHERS, "b",    &[]),
 ];
 
-/// Whether these are the prefixes of a text. No cells are read for them.
+/// Returns whether `expected` are the prefixes of `text`. No cells are read to find them.
 fn has_prefixes(
     alloc: Global,
     keys: &[u8],
@@ -98,10 +100,10 @@ fn prefixes_of_listed_keys(rt: HostRuntime) -> Result<(), Fail> {
     Ok(())
 }
 
-/// Sections that are to list keys.
+/// Sections 5 of layout 1.
 #[rattlefmt::skip]
 static LISTED: [(&str, u8, &[u8], Option<ImageFault>); 25] = [
-    // (what, how many keys there are to be, section 5, the fault)
+    // (what, the number of keys in the header, section 5, the error)
     ("none",                       0, b"",                         None),
     ("none, and a byte",           0, b"\0",                       Some(BadSection(5))),
     ("five",                       5, FIVE,                        None),

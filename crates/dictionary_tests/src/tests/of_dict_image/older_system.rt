@@ -1,6 +1,6 @@
-//! System images of layouts 1 and 2, whose section 3 has an entry for each code point up to U+FFFE.
+//! System images of layouts 1 and 2. Their section 3 has an entry for each code point up to U+FFFE.
 use super::images::image;
-use super::questions::has_info;
+use super::lookups::has_info;
 use crate::tests::samples::{dict_of, fault_of};
 use dict_image::Dict;
 use mj_model::ImageFault::{self, BadSection};
@@ -14,7 +14,7 @@ pub(crate) const ONE: u32 = 1 << 18 | 2;
 /// The entry of both categories, of which category 1 is the first.
 pub(crate) const BOTH: u32 = 1 << 18 | 3;
 
-/// The entry of a code point: one of these, or else that of category 0.
+/// Returns the entry of `code` in `others`, or else `ZERO`.
 fn entry_of(others: &[(u32, u32)], code: u32) -> u32 {
     for (other, entry) in others {
         if *other == code {
@@ -24,7 +24,7 @@ fn entry_of(others: &[(u32, u32)], code: u32) -> u32 {
     ZERO
 }
 
-/// Section 3: these code points have these entries, and all others up to U+FFFE have category 0.
+/// Returns section 3 with the entries `others`, and `ZERO` for all other code points up to U+FFFE.
 fn entries_with(alloc: Global, others: &[(u32, u32)]) -> Result<Vec<u8>, AllocError> {
     let mut entries = Vec::new(alloc);
     for code in 0..0xFFFF_u32 {
@@ -33,7 +33,8 @@ fn entries_with(alloc: Global, others: &[(u32, u32)]) -> Result<Vec<u8>, AllocEr
     Ok(entries)
 }
 
-/// The system image of a layout, without a digest, with two categories, each with one unknown token, and no keys.
+/// Returns the system image of layout `layout`, without a checksum. It has two categories, each
+/// with one unknown token, and no keys.
 pub(crate) fn two_categories(
     alloc: Global,
     layout: u32,
@@ -49,10 +50,10 @@ pub(crate) fn two_categories(
     image(alloc, [layout, 0, 1, 1, 2, 0, 0, 2], sections)
 }
 
-/// Code points with their categories.
+/// Code points and their categories.
 #[rattlefmt::skip]
 static CODE_POINTS: [(char, (u32, u8)); 8] = [
-    // (code point, its set of categories, the first of them)
+    // (code point, its set of categories, its first category)
     ('\0',         (3, 1)),
     ('\u{1}',      (1, 0)),
     ('あ',         (2, 1)),
@@ -63,7 +64,7 @@ static CODE_POINTS: [(char, (u32, u8)); 8] = [
     ('\u{10FFFF}', (3, 1)),
 ];
 
-/// The dictionary of a layout in which three code points have other categories.
+/// Returns the dictionary of layout `layout` in which three code points have other categories.
 fn dict_in(alloc: Global, layout: u32) -> Result<Dict, Fail> {
     let infos = entries_with(alloc, &[(0, BOTH), (0x3042, ONE), (0xFFFE, ONE)])?;
     Ok(dict_of(alloc, two_categories(alloc, layout, &infos)?)?)
@@ -84,7 +85,7 @@ fn categories_of_code_points(rt: HostRuntime) -> Result<(), Fail> {
     Ok(())
 }
 
-/// The fault of the image of a layout with this section 3.
+/// Returns the error of the image of layout `layout` with `infos` as section 3.
 fn fault_with(alloc: Global, layout: u32, infos: &[u8]) -> Result<Option<ImageFault>, AllocError> {
     Ok(fault_of(alloc, two_categories(alloc, layout, infos)?))
 }
@@ -92,7 +93,7 @@ fn fault_with(alloc: Global, layout: u32, infos: &[u8]) -> Result<Option<ImageFa
 /// Changed entries of code points.
 #[rattlefmt::skip]
 static CHANGED: [(&str, &[(u32, u32)], Option<ImageFault>); 8] = [
-    // (what, code points and their entries, the fault)
+    // (what, code points and their entries, the error)
     ("both categories",                    &[(0, BOTH), (0xFFFE, ONE)],    None),
     ("no category",                        &[(0, 0)],                      Some(BadSection(3))),
     ("the first one not in the set",       &[(0x20, 2)],                   Some(BadSection(3))),
@@ -117,10 +118,11 @@ fn changed_entries(rt: HostRuntime) -> Result<(), Fail> {
 /// All bytes of the entries.
 const ALL: usize = usize::MAX;
 
-/// Sections 3 that are made of the entries.
+/// Sections 3 with missing or additional bytes.
 #[rattlefmt::skip]
 static OTHER_SECTIONS: [(&str, u32, usize, &[u8], Option<ImageFault>); 9] = [
-    // (what, layout, how many bytes of the entries are left out in front, the bytes behind them, the fault)
+    // (what, layout, how many bytes are missing at the start, the bytes after the entries, the
+    // error)
     ("entries",   1, 0,   b"",                 None),
     ("entries",   2, 0,   b"",                 None),
     ("a range",   1, ALL, b"\0\0\0\0\x01\0\0\0", Some(BadSection(3))),
@@ -132,23 +134,24 @@ static OTHER_SECTIONS: [(&str, u32, usize, &[u8], Option<ImageFault>); 9] = [
     ("one more",  2, 0,   b"\x01\0\0\0",      Some(BadSection(3))),
 ];
 
-/// The fault of the image of a layout without the first so many bytes of the entries, and with others behind them.
+/// Returns the error of the image of layout `layout` without the first `left_out` bytes of the
+/// entries, and with `following` after them.
 fn fault_of_part(
     alloc: Global,
     layout: u32,
     left_out: usize,
-    behind: &[u8],
+    following: &[u8],
 ) -> Result<Option<ImageFault>, AllocError> {
     let entries = entries_with(alloc, &[])?;
     let mut infos = Vec::from_slice(alloc, entries.get(left_out..).unwrap_or(b""))?;
-    infos.extend_from_slice(behind)?;
+    infos.extend_from_slice(following)?;
     fault_with(alloc, layout, &infos)
 }
 
 #[test]
 fn other_sections_of_entries(rt: HostRuntime) -> Result<(), Fail> {
-    for (what, layout, left_out, behind, expected) in &OTHER_SECTIONS {
-        let fault = fault_of_part(rt.alloc(), *layout, *left_out, behind)?;
+    for (what, layout, left_out, following, expected) in &OTHER_SECTIONS {
+        let fault = fault_of_part(rt.alloc(), *layout, *left_out, following)?;
         assert_eq!(rt; fault, *expected, "{what}, layout {layout}");
     }
     Ok(())

@@ -1,14 +1,16 @@
-//! A second reader of user images, slow and simple, to compare the loader with.
+//! A second reader of user images, slow and simple, which the loader is compared with.
 //!
-//! It makes the tests of the format in their order, each from the whole bytes. Of system images it knows the header and section 1
-//! alone: a user image whose kind is changed has no costs, so that it goes no further.
+//! It makes the checks of the format in their order, each on the whole bytes. Of system images it
+//! knows only the header and section 1. That is enough for user images with a changed kind, which
+//! have no costs.
 use mj_model::ImageFault::{
     self, BadKey, BadLayout, BadMagic, BadSection, BadText, BadToken, Truncated,
 };
 use std::alloc::{AllocError, Global};
 use std::str::from_utf8;
 
-/// The first fault of a user image of layout 1 or 2, and None of a well-formed one. Of the digest of layout 3 it knows nothing.
+/// Returns the first error of a user image of layout 1 or 2, or `None` if it is valid. The checksum
+/// of layout 3 is not checked.
 pub(crate) fn first_fault(alloc: Global, bytes: &[u8]) -> Result<Option<ImageFault>, AllocError> {
     if let Some(fault) = front_fault(bytes) {
         return Ok(Some(fault));
@@ -24,7 +26,7 @@ pub(crate) fn first_fault(alloc: Global, bytes: &[u8]) -> Result<Option<ImageFau
     }
 }
 
-/// The header, and sections 1 to 4.
+/// Checks the header and sections 1 to 4.
 fn front_fault(bytes: &[u8]) -> Option<ImageFault> {
     if let Some(fault) = frame_fault(bytes) {
         return Some(fault);
@@ -35,7 +37,7 @@ fn front_fault(bytes: &[u8]) -> Option<ImageFault> {
     }
 }
 
-/// Sections 6 to 8.
+/// Checks sections 6 to 8.
 fn lexicon_fault(bytes: &[u8]) -> Option<ImageFault> {
     match groups_fault(bytes) {
         Some(fault) => Some(fault),
@@ -43,7 +45,7 @@ fn lexicon_fault(bytes: &[u8]) -> Option<ImageFault> {
     }
 }
 
-/// The little-endian number in so many bytes from a place on.
+/// Returns the little-endian number in `size` bytes from position `at` on.
 pub(crate) fn number_at(bytes: &[u8], at: usize, size: usize) -> u64 {
     let mut number = 0_u64;
     let mut weight = 1_u64;
@@ -54,12 +56,12 @@ pub(crate) fn number_at(bytes: &[u8], at: usize, size: usize) -> u64 {
     number
 }
 
-/// The number in 4 bytes.
+/// Returns the number in 4 bytes.
 fn u32_at(bytes: &[u8], at: usize) -> u32 {
     u32::try_from(number_at(bytes, at, 4)).unwrap_or(u32::MAX)
 }
 
-/// The number with a sign in 4 bytes.
+/// Returns the signed number in 4 bytes.
 fn signed_at(bytes: &[u8], at: usize) -> i64 {
     let number = i64::from(u32_at(bytes, at));
     if number < 1 << 31 {
@@ -69,7 +71,7 @@ fn signed_at(bytes: &[u8], at: usize) -> i64 {
     }
 }
 
-/// Where the header and the first so many sections end.
+/// Returns the end of the header and the first `sections` sections.
 fn end_of(bytes: &[u8], sections: usize) -> Option<u64> {
     let mut end = 104_u64;
     for at in [40, 48, 56, 64, 72, 80, 88, 96].iter().take(sections) {
@@ -78,19 +80,19 @@ fn end_of(bytes: &[u8], sections: usize) -> Option<u64> {
     Some(end)
 }
 
-/// The bytes of section k, none where they lie outside.
+/// Returns the bytes of section `k`, or nothing if it lies out of range.
 pub(crate) fn section(bytes: &[u8], k: usize) -> &[u8] {
     let start = end_of(bytes, k.saturating_sub(1)).unwrap_or(0);
     let end = end_of(bytes, k).unwrap_or(0);
     bytes.get(start as usize..end as usize).unwrap_or(b"")
 }
 
-/// Where the header, the sections and a digest of so many bytes end.
+/// Returns the end of the header, the sections and a checksum of `digest` bytes.
 fn total_with(bytes: &[u8], digest: u64) -> Option<u64> {
     end_of(bytes, 8)?.checked_add(digest)
 }
 
-/// The length of the header, the magic, the layout and the length of all.
+/// Checks the length of the header, the magic, the layout and the total length.
 pub(crate) fn frame_fault(bytes: &[u8]) -> Option<ImageFault> {
     if bytes.len() < 104 {
         return Some(Truncated);
@@ -111,7 +113,7 @@ pub(crate) fn frame_fault(bytes: &[u8]) -> Option<ImageFault> {
     }
 }
 
-/// The numbers of the header.
+/// Checks the header fields.
 fn header_fault(bytes: &[u8]) -> Option<ImageFault> {
     let kind = number_at(bytes, 12, 4);
     let right = number_at(bytes, 16, 4);
@@ -138,7 +140,7 @@ fn header_fault(bytes: &[u8]) -> Option<ImageFault> {
     }
 }
 
-/// Sections 1 to 4, which a user image leaves empty. A system image has costs.
+/// Checks sections 1 to 4, which are empty in a user image. A system image has costs.
 fn system_fault(bytes: &[u8]) -> Option<ImageFault> {
     let pairs = number_at(bytes, 16, 4).wrapping_mul(number_at(bytes, 20, 4));
     let costs = if number_at(bytes, 12, 4) == 0 {
@@ -157,7 +159,7 @@ fn system_fault(bytes: &[u8]) -> Option<ImageFault> {
     None
 }
 
-/// Section 5 of layout 1: each key, and then the section's end.
+/// Checks section 5 of layout 1: each key, and then the end of the section.
 fn listed_fault(bytes: &[u8]) -> Option<ImageFault> {
     let mut rest = section(bytes, 5);
     let mut before = b"".as_slice();
@@ -177,7 +179,7 @@ fn listed_fault(bytes: &[u8]) -> Option<ImageFault> {
     }
 }
 
-/// Base and check of a cell of layout 2, none of a number that is no cell's.
+/// Returns base and check of cell `number`, or `None` if it does not exist.
 pub(crate) fn cell(cells: &[u8], number: i64) -> Option<(i64, i64)> {
     let at = usize::try_from(number).ok()?.checked_mul(8)?;
     if at >= cells.len() {
@@ -186,7 +188,7 @@ pub(crate) fn cell(cells: &[u8], number: i64) -> Option<(i64, i64)> {
     Some((signed_at(cells, at), signed_at(cells, at.saturating_add(4))))
 }
 
-/// Whether a cell behind the root is free or a child of its check, with a value below the number of groups.
+/// Returns whether a cell after the root is free or a child of its check, and has a valid value.
 fn is_cell(cells: &[u8], groups: i64, number: i64) -> bool {
     let Some((base, check)) = cell(cells, number) else {
         return false;
@@ -205,19 +207,19 @@ fn is_cell(cells: &[u8], groups: i64, number: i64) -> bool {
     }
 }
 
-/// The base of a cell, if it is there.
+/// Returns the base of cell `number`, if it exists.
 fn base_of(cells: &[u8], number: i64) -> Option<i64> {
     let (base, _) = cell(cells, number)?;
     Some(base)
 }
 
-/// The check of a cell, if it is there.
+/// Returns the check of cell `number`, if it exists.
 fn check_of(cells: &[u8], number: i64) -> Option<i64> {
     let (_, check) = cell(cells, number)?;
     Some(check)
 }
 
-/// How many cells hold a value, and one of them.
+/// Returns how many cells hold `value`, and the last of them.
 fn value_cells(cells: &[u8], value: i64) -> (usize, i64) {
     let mut count = 0_usize;
     let mut place = 0;
@@ -230,7 +232,7 @@ fn value_cells(cells: &[u8], value: i64) -> (usize, i64) {
     (count, place)
 }
 
-/// Whether the root and all other cells are allowed.
+/// Returns whether the root and all other cells are valid.
 fn are_cells(cells: &[u8], groups: i64) -> bool {
     base_of(cells, 0).unwrap_or(-1) >= 0
         && check_of(cells, 0) == Some(-2)
@@ -239,7 +241,7 @@ fn are_cells(cells: &[u8], groups: i64) -> bool {
         && are_cells_behind(cells, groups)
 }
 
-/// Whether all cells behind the root are allowed.
+/// Returns whether all cells after the root are valid.
 fn are_cells_behind(cells: &[u8], groups: i64) -> bool {
     for number in 1..(cells.len() / 8) as i64 {
         if !is_cell(cells, groups, number) {
@@ -249,7 +251,8 @@ fn are_cells_behind(cells: &[u8], groups: i64) -> bool {
     true
 }
 
-/// The key of the value in a cell, its last byte first. None where the checks don't lead to the root.
+/// Returns the key of the value in cell `place`, last byte first, or `None` if the checks don't
+/// lead to the root.
 fn key_back(alloc: Global, cells: &[u8], place: i64) -> Result<Option<Vec<u8>>, AllocError> {
     let mut key = Vec::new(alloc);
     let mut state = check_of(cells, place).unwrap_or(-1);
@@ -266,7 +269,7 @@ fn key_back(alloc: Global, cells: &[u8], place: i64) -> Result<Option<Vec<u8>>, 
     Ok(None)
 }
 
-/// Whether the value in a cell has a key: some bytes of UTF-8, but not too many.
+/// Returns whether the value in cell `place` has a valid key: UTF-8 of 1 to 65,535 bytes.
 fn has_key(alloc: Global, cells: &[u8], place: i64) -> Result<bool, AllocError> {
     let Some(mut key) = key_back(alloc, cells, place)? else {
         return Ok(false);
@@ -275,7 +278,7 @@ fn has_key(alloc: Global, cells: &[u8], place: i64) -> Result<bool, AllocError> 
     Ok(!key.is_empty() && key.len() <= 65_535 && from_utf8(&key).is_ok())
 }
 
-/// Whether each of so many values stands in one cell.
+/// Returns whether each value below `groups` is in exactly one cell.
 fn stand_once(cells: &[u8], groups: u32) -> bool {
     for value in 0..groups {
         if value_cells(cells, i64::from(value)).0 != 1 {
@@ -285,7 +288,7 @@ fn stand_once(cells: &[u8], groups: u32) -> bool {
     true
 }
 
-/// Section 5 of layout 2: the cells, each value in one of them, and then the keys.
+/// Checks section 5 of layout 2: the cells, each value in one of them, and then the keys.
 fn cells_fault(alloc: Global, bytes: &[u8]) -> Result<Option<ImageFault>, AllocError> {
     let cells = section(bytes, 5);
     let groups = u32_at(bytes, 28);
@@ -300,12 +303,12 @@ fn cells_fault(alloc: Global, bytes: &[u8]) -> Result<Option<ImageFault>, AllocE
     Ok(None)
 }
 
-/// Entry `i` of section 6.
+/// Returns entry `i` of section 6.
 fn entry_at(index: &[u8], i: usize) -> u32 {
     u32_at(index, i.saturating_mul(4))
 }
 
-/// Whether each of so many entries of section 6 lies below the next one.
+/// Returns whether the first `groups` entries of section 6 are each below the next one.
 fn rises(index: &[u8], groups: usize) -> bool {
     for i in 0..groups {
         if entry_at(index, i) >= entry_at(index, i.saturating_add(1)) {
@@ -315,7 +318,7 @@ fn rises(index: &[u8], groups: usize) -> bool {
     true
 }
 
-/// Section 6: it rises from 0 to the number of tokens.
+/// Checks section 6, which rises from 0 to the number of tokens.
 fn groups_fault(bytes: &[u8]) -> Option<ImageFault> {
     let index = section(bytes, 6);
     let groups = u32_at(bytes, 28) as usize;
@@ -328,7 +331,7 @@ fn groups_fault(bytes: &[u8]) -> Option<ImageFault> {
     }
 }
 
-/// Sections 7 and 8: the tokens, and then their features.
+/// Checks sections 7 and 8: the tokens, and then their features.
 fn tokens_fault(bytes: &[u8]) -> Option<ImageFault> {
     let tokens = section(bytes, 7);
     let count = u32_at(bytes, 32).saturating_add(u32_at(bytes, 36));
@@ -343,7 +346,7 @@ fn tokens_fault(bytes: &[u8]) -> Option<ImageFault> {
     features_fault(bytes, count)
 }
 
-/// Section 8: the features of so many tokens.
+/// Checks section 8: the features of the first `count` tokens.
 fn features_fault(bytes: &[u8], count: u32) -> Option<ImageFault> {
     for token in 0..count {
         if !has_feature(bytes, token) {
@@ -353,7 +356,7 @@ fn features_fault(bytes: &[u8], count: u32) -> Option<ImageFault> {
     None
 }
 
-/// Whether the ids of a token lie below the sizes, and its spare bytes are 0.
+/// Returns whether the ids of a token are below the sizes, and its spare bytes are 0.
 fn fits_sizes(bytes: &[u8], token: u32) -> bool {
     let tokens = section(bytes, 7);
     let at = (token as usize).saturating_mul(16);
@@ -362,7 +365,7 @@ fn fits_sizes(bytes: &[u8], token: u32) -> bool {
         && number_at(tokens, at.saturating_add(6), 2) == 0
 }
 
-/// Whether the feature of a token lies in section 8, and is UTF-8.
+/// Returns whether the feature of a token lies in section 8 and is UTF-8.
 fn has_feature(bytes: &[u8], token: u32) -> bool {
     let at = (token as usize).saturating_mul(16);
     let start = u32_at(section(bytes, 7), at.saturating_add(8)) as usize;

@@ -1,8 +1,10 @@
-//! A second count of the cells that are read for the keys that begin a text, slow and simple.
+//! A second count of the cells that are read to find the prefixes of a text, slow and simple.
 use super::plain_reader::{cell, number_at, section};
 
-/// How many cells of an image are read for a text: the root, each cell that a step on a byte would lead to and each where a state's value
-/// would stand, of those that are there. Layout 1 has no cells.
+/// Returns how many cells of `image` are read for `text`.
+///
+/// These are the root, the cell of each step on a byte, and the value cell of each state, if they
+/// exist. Layout 1 has no cells.
 pub(crate) fn reads_for(image: &[u8], text: &[u8]) -> u64 {
     if number_at(image, 8, 4) == 1 {
         return 0;
@@ -20,7 +22,7 @@ pub(crate) fn reads_for(image: &[u8], text: &[u8]) -> u64 {
     reads
 }
 
-/// Where the step from a state on a code leads. The cell that is asked for counts if it is there.
+/// Returns the state that a step on `code` leads to. The cell of the step counts if it exists.
 fn step(cells: &[u8], state: i64, code: i64, reads: &mut u64) -> Option<i64> {
     let (base, _) = cell(cells, state)?;
     let next = base.wrapping_add(code);

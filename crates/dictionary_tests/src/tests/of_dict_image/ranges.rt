@@ -1,13 +1,13 @@
-//! System images of layout 3, whose section 3 has ranges of code points.
+//! System images of layout 3. Their section 3 has ranges of code points.
 use super::images::sealed;
+use super::lookups::has_info;
 use super::older_system::{BOTH, ONE, ZERO, two_categories};
-use super::questions::has_info;
 use crate::tests::samples::dict_of;
 use dict_image::Dict;
 use std::alloc::{AllocError, Global};
 use std::test::Fail;
 
-/// Section 3: the code points from each of these on have its entry.
+/// Returns section 3 with `ranges`, each a first code point and an entry.
 fn ranges_of(alloc: Global, ranges: &[(u32, u32)]) -> Result<Vec<u8>, AllocError> {
     let mut bytes = Vec::new(alloc);
     for (first, entry) in ranges {
@@ -17,20 +17,20 @@ fn ranges_of(alloc: Global, ranges: &[(u32, u32)]) -> Result<Vec<u8>, AllocError
     Ok(bytes)
 }
 
-/// Ranges of one code point, and ones that begin where the basic plane ends and behind it.
+/// Ranges of one code point, and ranges that start at or after the end of the basic plane.
 #[rattlefmt::skip]
 static SHORT: [(u32, u32); 10] = [
     (0, ZERO), (0x41, ONE), (0x42, ZERO), (0xD7FF, ONE), (0xE000, BOTH), (0xE001, ZERO),
     (0xFFFF, ONE), (0x1_0000, BOTH), (0x1_0001, ZERO), (0x10_FFFF, ONE),
 ];
 
-/// Ranges of which the second begins in the basic plane and ends behind it.
+/// Ranges of which the second starts in the basic plane and ends after it.
 static LONG: [(u32, u32); 3] = [(0, BOTH), (0xFFFE, ONE), (0x1_0001, ZERO)];
 
-/// Code points with their categories.
+/// Code points and their categories.
 #[rattlefmt::skip]
 static CODE_POINTS: [(char, (u32, u8), (u32, u8)); 15] = [
-    // (code point, its set of categories and the first of them in short ranges, and in long ones)
+    // (code point, its set of categories and its first category in short ranges, and in long ones)
     ('\0',         (1, 0), (3, 1)),
     ('@',          (1, 0), (3, 1)),
     ('A',          (2, 1), (3, 1)),
@@ -48,7 +48,7 @@ static CODE_POINTS: [(char, (u32, u8), (u32, u8)); 15] = [
     ('\u{10FFFF}', (2, 1), (1, 0)),
 ];
 
-/// The dictionary of these ranges.
+/// Returns the dictionary of `ranges`.
 fn dict_with(alloc: Global, ranges: &[(u32, u32)]) -> Result<Dict, Fail> {
     let body = two_categories(alloc, 3, &ranges_of(alloc, ranges)?)?;
     Ok(dict_of(alloc, sealed(alloc, &body)?)?)

@@ -1,11 +1,11 @@
-//! The codes and names of the faults that an image's writer reports.
+//! The codes and names of the errors that `image_writer` returns.
 use mj_model::NamedFault;
 use mj_model::SourceKind::{self, ArrayFull, FeaturesTooLarge, Memory};
 
-/// Faults with their codes and names.
+/// Errors with their codes and names.
 #[rattlefmt::skip]
 static FAULTS: [(SourceKind, &str, &str); 3] = [
-    // (fault, code, name)
+    // (error, code, name)
     (ArrayFull,        "I2",     "ArrayFull"),
     (FeaturesTooLarge, "I3",     "FeaturesTooLarge"),
     (Memory,           "Memory", "Memory"),

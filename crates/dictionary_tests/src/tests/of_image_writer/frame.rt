@@ -1,13 +1,13 @@
-//! A user image of the one surface `a`.
+//! A user image with the single surface `a`.
 use super::samples::{section, user_image};
-use image_bytes::{DictKind, Header, LAYOUT};
+use image_format::{DictKind, Header, LAYOUT};
 use image_writer::write_image;
 use mj_model::MatrixSizes;
 use sha2::{Digest, Sha256};
 use std::alloc::{AllocError, Global};
 use std::test::Fail;
 
-/// The header of a user dictionary for a connection table of 2 right ids and 2 left ids, up to the length of section 5.
+/// The header of a user dictionary for 2 right ids and 2 left ids, up to the length of section 5.
 static HEADER_BEGIN: [u8; 72] =
     *b"MJDICT\r\n\x03\0\0\0\x01\0\0\0\x02\0\0\0\x02\0\0\0\0\0\0\0\x01\0\0\0\x01\0\0\0\0\0\0\0\
     \0\0\0\0\0\0\0\0\0\0\0\0\0\0\0\0\0\0\0\0\0\0\0\0\0\0\0\0\0\0\0\0";
@@ -15,10 +15,10 @@ static HEADER_BEGIN: [u8; 72] =
 /// The lengths of sections 6 to 8, which end the header: 8, 16 and 1 bytes.
 static HEADER_END: [u8; 24] = *b"\x08\0\0\0\0\0\0\0\x10\0\0\0\0\0\0\0\x01\0\0\0\0\0\0\0";
 
-/// Sections 6 to 8, one behind another.
+/// Sections 6 to 8.
 static SECTIONS: [u8; 25] = *b"\0\0\0\0\x01\0\0\0\x01\0\x01\0\x01\0\0\0\0\0\0\0\x01\0\0\0X";
 
-/// The image without its digest, with these cells.
+/// Returns the image without its checksum, with `cells` as section 5.
 fn body_with(alloc: Global, cells: &[u8]) -> Result<Vec<u8>, AllocError> {
     let mut body = Vec::new(alloc);
     body.extend_from_slice(&HEADER_BEGIN)?;
@@ -34,7 +34,7 @@ fn header_sections_and_digest(rt: HostRuntime) -> Result<(), Fail> {
     let sizes = MatrixSizes { right: 2, left: 2 };
     let image = user_image(rt.alloc(), sizes, "a,1,1,1,X\n")?;
 
-    // What the cells hold is not known, nor how many there are.
+    // The contents and the number of the cells are not specified.
     let body = body_with(rt.alloc(), section(&image, 5))?;
     assert_eq!(rt; image.len(), body.len() + 32);
     assert!(rt; image.starts_with(&body));
@@ -42,7 +42,7 @@ fn header_sections_and_digest(rt: HostRuntime) -> Result<(), Fail> {
     Ok(())
 }
 
-/// The header of such an image whose sections 5 to 8 have 8, 8, 16 and 1 bytes.
+/// The header of the image. Its sections 5 to 8 have 8, 8, 16 and 1 bytes.
 const HEADER: Header = Header {
     layout: LAYOUT,
     kind: DictKind::User,
@@ -54,7 +54,7 @@ const HEADER: Header = Header {
     lengths: [0, 0, 0, 0, 8, 8, 16, 1],
 };
 
-/// Its one cell: BASE 1 and CHECK -2.
+/// The only cell of the image: BASE 1 and CHECK -2.
 static CELL: [u8; 8] = *b"\x01\0\0\0\xfe\xff\xff\xff";
 
 #[test]

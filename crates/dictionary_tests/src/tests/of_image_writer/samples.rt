@@ -1,8 +1,8 @@
-//! Lexicons of a few lines, images of theirs, and the sections of an image.
+//! Lexicons of a few lines, their images, and the sections of an image.
 ghost use Rattle.std.specs.Prelude.{◌≡◌, IfOk};
 
 use char_def::{read_chars, read_unk};
-use image_bytes::{HEADER_LENGTH, read_header, section_ends};
+use image_format::{HEADER_LENGTH, read_header, section_ends};
 use image_writer::{write_system, write_user};
 use lex_source::{SortedLexicon, SourceLexicon};
 use matrix_def::read_matrix;
@@ -17,7 +17,7 @@ pub const SAMPLE: &str = "\
 もも,1,1,30,名詞,もも
 ";
 
-/// The dictionary of a lexicon's lines, whose ids lie within the sizes.
+/// Returns the sorted lexicon of `lines`, whose ids must be below `sizes`.
 fn sorted(alloc: Global, sizes: MatrixSizes, lines: &str) -> Result<SortedLexicon, Fail>
     ensures { IfOk result (λ lexicon. lexicon.sizes ≡ sizes) }
 {
@@ -26,7 +26,7 @@ fn sorted(alloc: Global, sizes: MatrixSizes, lines: &str) -> Result<SortedLexico
     Ok(lexicon.sorted()?)
 }
 
-/// The image of a user dictionary of these lines, whose ids lie within the sizes.
+/// Returns the user image of `lines`, whose ids must be below `sizes`.
 pub fn user_image(alloc: Global, sizes: MatrixSizes, lines: &str) -> Result<Vec<u8>, Fail> {
     if !sizes.are_allowed() {
         return Err("a connection table may have the sizes")?;
@@ -35,7 +35,8 @@ pub fn user_image(alloc: Global, sizes: MatrixSizes, lines: &str) -> Result<Vec<
     Ok(write_user(alloc, lexicon)?)
 }
 
-/// The image of a system dictionary of these sources and lines. The ids of the unknown entries have to lie within the sizes.
+/// Returns the system image of `sources` and `lines`. Fails if an unknown entry has an id out of
+/// range.
 pub fn system_image(alloc: Global, sources: &Sources<'_>, lines: &str) -> Result<Vec<u8>, Fail> {
     let matrix = read_matrix(alloc, sources.matrix)?;
     let chars = read_chars(alloc, sources.chars)?;
@@ -47,12 +48,12 @@ pub fn system_image(alloc: Global, sources: &Sources<'_>, lines: &str) -> Result
     Ok(write_system(alloc, &matrix, &chars, &unknown, lexicon)?)
 }
 
-/// The image of the sample's sources.
+/// Returns the image of the sample's sources.
 pub fn sample_image(alloc: Global) -> Result<Vec<u8>, Fail> {
     system_image(alloc, &sample(), SAMPLE)
 }
 
-/// Section `k` of an image, counted from 1; none of bytes that are no image.
+/// Returns section `k` of an image, counted from 1. Returns nothing if `image` is not an image.
 pub fn section(image: &[u8], k: usize) -> &[u8] {
     let empty = b"".as_slice();
     if image.len() < HEADER_LENGTH || k == 0 || k > 8 {

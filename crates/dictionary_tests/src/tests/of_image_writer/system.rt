@@ -1,14 +1,14 @@
-//! The image of the sample's sources, byte for byte but for the cells of its keys: six categories, numbered from 0, with an unknown
-//! entry each.
+//! The image of the sample's sources, byte for byte except the cells of its keys. It has six
+//! categories, numbered from 0, each with an unknown entry.
 use super::samples::{sample_image, section};
-use image_bytes::{DIGEST_LENGTH, HEADER_LENGTH, read_header};
+use image_format::{DIGEST_LENGTH, HEADER_LENGTH, read_header};
 use sha2::{Digest, Sha256};
 use std::alloc::{AllocError, Global};
 use std::process::Abort;
 use std::test::Fail;
 
-/// The header of the sample's image up to the lengths of its sections: layout 3, kind 0, 2 right and 2 left ids, 6 categories, 3
-/// groups, 3 tokens and 6 unknown entries.
+/// The header of the sample's image up to the lengths of its sections: layout 3, kind 0, 2 right
+/// ids, 2 left ids, 6 categories, 3 groups, 3 tokens and 6 unknown entries.
 static HEADER: &[u8; 40] =
     b"MJDICT\r\n\x03\0\0\0\0\0\0\0\x02\0\0\0\x02\0\0\0\x06\0\0\0\x03\0\0\0\x03\0\0\0\x06\0\0\0";
 
@@ -19,8 +19,9 @@ static BEGIN_LENGTHS: &[u8; 32] =
 /// The lengths of sections 6 to 8.
 static END_LENGTHS: &[u8; 24] = b"\x10\0\0\0\0\0\0\0\x90\0\0\0\0\0\0\0\x2d\0\0\0\0\0\0\0";
 
-/// Sections 1 to 4: the costs of right id 0 and those of right id 1; the categories; the code point at which each range begins, with
-/// the set of its categories and the first of them; the first unknown entry of each category.
+/// Sections 1 to 4: the costs of right id 0 and of right id 1; the categories; for each range its
+/// first code point, its set of categories and its first category; the first unknown entry of each
+/// category.
 static BEGIN: &[u8; 202] = b"\0\0\x0a\0\x05\0\x07\0\
     \0\x01\0\x07DEFAULT\0\x01\0\x05SPACE\x01\x01\0\x05ALPHA\
     \x01\x01\x02\x08KATAKANA\0\0\x02\x05KANJI\0\x01\x02\x08HIRAGANA\
@@ -42,13 +43,13 @@ static TOKENS: &[u8; 64] = b"\0\0\0\0\x01\0\0\0\x02\0\0\0\x03\0\0\0\
 /// The token of each unknown entry.
 static UNKNOWN_TOKEN: &[u8; 16] = b"\x01\0\x01\0\xe8\x03\0\0\x27\0\0\0\x06\0\0\0";
 
-/// The features, one behind another.
+/// The features in the order of section 8.
 static FEATURES: [&str; 4] = ["名詞,すもも", "助詞,も", "名詞,もも", "未知"];
 
-/// The tokens of the lexicon, and the one of each unknown entry.
+/// The tokens of the lexicon, and the token of each unknown entry.
 #[rattlefmt::skip]
 static TOKEN_ROWS: [(&str, &[u8; 16]); 9] = [
-    // (what, left id, right id, cost, spare, place and length of the feature)
+    // (what, left id, right id, cost, spare bytes, position and length of the feature)
     ("すもも", b"\x01\0\x01\0\x64\0\0\0\0\0\0\0\x10\0\0\0"),
     ("も", b"\x01\0\x01\0\x14\0\0\0\x10\0\0\0\x0a\0\0\0"),
     ("もも", b"\x01\0\x01\0\x1e\0\0\0\x1a\0\0\0\x0d\0\0\0"),
@@ -60,7 +61,7 @@ static TOKEN_ROWS: [(&str, &[u8; 16]); 9] = [
     ("HIRAGANA", b"\x01\0\x01\0\xe8\x03\0\0\x27\0\0\0\x06\0\0\0"),
 ];
 
-/// The first of the features that does not stand behind the one before it.
+/// Returns the first feature that does not follow the one before it.
 fn missing_feature(bytes: &[u8]) -> Option<&'static str> {
     let mut rest = bytes;
     for feature in &FEATURES {
@@ -72,7 +73,7 @@ fn missing_feature(bytes: &[u8]) -> Option<&'static str> {
     None
 }
 
-/// How many groups an image has, if it has a header.
+/// Returns the number of groups of `image`, if it has a header.
 fn groups_of(image: &[u8]) -> Option<u32> {
     if image.len() < HEADER_LENGTH {
         return None;
@@ -80,7 +81,8 @@ fn groups_of(image: &[u8]) -> Option<u32> {
     Some(read_header(image).groups)
 }
 
-/// The first of the tokens that does not stand behind the one before it, or else what stands behind the last one.
+/// Returns the first token that does not follow the one before it, or a label if bytes follow the
+/// last one.
 fn wrong_token(bytes: &[u8]) -> Option<&'static str> {
     let mut rest = bytes;
     for (what, token) in &TOKEN_ROWS {
@@ -92,11 +94,11 @@ fn wrong_token(bytes: &[u8]) -> Option<&'static str> {
     if rest.is_empty() {
         None
     } else {
-        Some("behind the tokens")
+        Some("following the tokens")
     }
 }
 
-/// Asks for the lexicon of the sample's image.
+/// Checks the lexicon of the sample's image.
 fn expect_lexicon(rt: &impl Abort, image: &[u8]) {
     let groups = b"\0\0\0\0\x01\0\0\0\x02\0\0\0\x03\0\0\0";
     assert!(rt; groups_of(image) == Some(3));
@@ -112,7 +114,7 @@ fn sections_of_the_lexicon(rt: HostRuntime) -> Result<(), Fail> {
     Ok(())
 }
 
-/// The tokens and features, with which the sections end.
+/// Returns the tokens and features, which are the end of the sections.
 fn end_of_sections(alloc: Global) -> Result<Vec<u8>, AllocError> {
     let mut end = Vec::from_slice(alloc, TOKENS)?;
     for _ in 0..6 {
@@ -122,7 +124,7 @@ fn end_of_sections(alloc: Global) -> Result<Vec<u8>, AllocError> {
     Ok(end)
 }
 
-/// Asks for the sample's image, whose sections have this end.
+/// Checks the sample's image, whose sections end with `end`.
 fn expect_image(rt: &impl Abort, image: &[u8], end: &[u8]) {
     assert!(rt; image.starts_with(HEADER));
     assert!(rt; image.get(40..72) == Some(BEGIN_LENGTHS.as_slice()));

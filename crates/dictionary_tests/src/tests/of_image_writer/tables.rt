@@ -7,7 +7,7 @@ use std::test::Fail;
 /// The names of the sample's categories.
 static NAMES: [&str; 6] = ["DEFAULT", "SPACE", "ALPHA", "KATAKANA", "KANJI", "HIRAGANA"];
 
-/// Unknown entries whose ids lie within the sizes of any connection table.
+/// Returns unknown entries whose ids are in range for a matrix of any sizes.
 fn unknown_of_0(alloc: Global) -> Result<Vec<u8>, AllocError> {
     let mut unk = Vec::new(alloc);
     for name in &NAMES {
@@ -17,7 +17,7 @@ fn unknown_of_0(alloc: Global) -> Result<Vec<u8>, AllocError> {
     Ok(unk)
 }
 
-/// Whether section 1 of the image of a connection table has these bytes.
+/// Returns whether section 1 of the image of `matrix` has these bytes.
 fn has_costs(alloc: Global, matrix: &[u8], bytes: &[u8]) -> Result<bool, Fail> {
     let unk = unknown_of_0(alloc)?;
     let sources = Sources {

@@ -1,6 +1,6 @@
-//! Images of small user dictionaries, byte for byte but for the cells of their keys.
+//! Images of small user dictionaries, byte for byte except the cells of their keys.
 use super::samples::{section, user_image};
-use image_bytes::{DIGEST_LENGTH, HEADER_LENGTH};
+use image_format::{DIGEST_LENGTH, HEADER_LENGTH};
 use mj_model::MatrixSizes;
 use sha2::{Digest, Sha256};
 use std::alloc::{AllocError, Global};
@@ -9,13 +9,13 @@ use std::test::Fail;
 /// The first bytes of a user image: layout 3, kind 1.
 static BEGIN: &[u8; 16] = b"MJDICT\r\n\x03\0\0\0\x01\0\0\0";
 
-/// A user dictionary, and what its image says.
+/// A user lexicon, and the contents of its image.
 #[derive(Clone, Copy)]
 struct Row {
     what: &'static str,
     sizes: MatrixSizes,
     lines: &'static str,
-    /// The sizes, and how many categories, groups, tokens and unknown entries there are.
+    /// The sizes, and the number of categories, groups, tokens and unknown entries.
     numbers: &'static [u8; 24],
     /// The lengths of sections 6 to 8.
     lengths: &'static [u8; 24],
@@ -43,7 +43,8 @@ static ROWS: [Row; 3] = [
         features: b"XYZ" },
 ];
 
-/// Whether an image has the row's sections, and the root's check is -2. The root's base is not known.
+/// Returns whether `image` has the sections of `row`, and CHECK -2 at the root. The root's BASE is
+/// not specified.
 fn has_sections(image: &[u8], row: &Row) -> bool {
     #[rattlefmt::skip]
     let Row { numbers, groups, tokens, features, .. } = *row;
@@ -66,7 +67,7 @@ fn sections_of_lexicons(rt: HostRuntime) -> Result<(), Fail> {
     Ok(())
 }
 
-/// Sections 6 to 8 of a row, one behind another.
+/// Returns sections 6 to 8 of `row`.
 fn end_of(alloc: Global, row: &Row) -> Result<Vec<u8>, AllocError> {
     #[rattlefmt::skip]
     let Row { groups, tokens, features, .. } = *row;
@@ -77,7 +78,7 @@ fn end_of(alloc: Global, row: &Row) -> Result<Vec<u8>, AllocError> {
     Ok(end)
 }
 
-/// The header of a row, whose sections 1 to 4 are empty, and whose cells have so many bytes.
+/// Returns the header of `row`. Sections 1 to 4 are empty, and section 5 has `cells` bytes.
 fn header_of(alloc: Global, row: &Row, cells: u64) -> Result<Vec<u8>, AllocError> {
     let Row {
         numbers,
@@ -93,7 +94,8 @@ fn header_of(alloc: Global, row: &Row, cells: u64) -> Result<Vec<u8>, AllocError
     Ok(header)
 }
 
-/// Whether an image has the row's header, sections and digest. How many cells the keys have is not known.
+/// Returns whether `image` has the header, sections and checksum of `row`. The number of its cells
+/// is not specified.
 fn is_image(alloc: Global, image: &[u8], row: &Row) -> Result<bool, AllocError> {
     let end = end_of(alloc, row)?;
     let around = HEADER_LENGTH + DIGEST_LENGTH + end.len();

@@ -1,5 +1,5 @@
 use Rattle.std.proofs.Common.{◌≡◌, ◌+◌, ◌≤◌, pos, true, false, ap, sym, subst, ◌∙◌, inr}
-use Rattle.cell_walk.specs.CellMap.{check}
+use Rattle.mj_model.specs.CellMap.{check}
 use Rattle.double_array.specs.CellMoves.{IsMove}
 use Rattle.double_array.proofs.CellMoveLaw.{Renames}
 use Rattle.double_array.specs.Built.{values}
@@ -10,11 +10,11 @@ use Rattle.double_array.proofs.clearing.move_other.Goals as goal
 use Rattle.double_array.proofs.clearing.move_other.Goals.{then-is_child, else-is_child}
 
 move : (c : goal.After-relocate-moved) → IsMove c.args.pool.now.cells c.relocate-moved.new.pool.cells c.args.other c.find_free_base-to.result
-move c = subst (λ (p : Pool). IsMove p.cells c.relocate-moved.new.pool.cells c.args.other c.find_free_base-to.result) c.find_free_base-to.ensures.kept c.relocate-moved.ensures.moved
+move c = subst (λ (p : Pool). IsMove p.cells c.relocate-moved.new.pool.cells c.args.other c.find_free_base-to.result) c.find_free_base-to.ensures.unchanged c.relocate-moved.ensures.moved
 
 follows : (c : goal.After-relocate-moved) → Renames values c.args.pool.now.cells c.relocate-moved.new.pool.cells c.args.other c.find_free_base-to.result c.requires.can.built.rules c.requires.can.built.on_keys (move c) c.args.state c.if-is_child.follow
 follows c =
-    let kept = c.find_free_base-to.ensures.kept in
+    let kept = c.find_free_base-to.ensures.unchanged in
     let same : check c.find_free_base-to.new.self.cells c.args.state ≡ check c.args.pool.now.cells c.args.state = ap (λ (p : Pool). check p.cells c.args.state) kept in
     elim c.if-is_child.branch [
       | then-is_child w ↦
@@ -31,11 +31,11 @@ returns-clause-cleared c =
     let f = c.find_free_base-to in
     let e = c.relocate-moved.ensures in
     let new = c.relocate-moved.new.pool in
-    let top : new.top ≤ c.args.pool.now.top + 257 = subst (λ (p : Pool). new.top ≤ p.top + 257) f.ensures.kept e.top in
+    let top : new.top ≤ c.args.pool.now.top + 257 = subst (λ (p : Pool). new.top ≤ p.top + 257) f.ensures.unchanged e.top in
     cleared_by_other c.args.pool.now new c.args.state c.args.from c.args.code c.args.other c.base-other_from.result f.result c.if-is_child.follow c.args.family.now r.can.built r.can.based r.can.least r.can.code_within r.used r.apart r.can.room (move c) e.bases e.root top (follows c)
 
 pub returns-clause-moved : goal.returns-clause-moved
 returns-clause-moved c =
     let f = c.find_free_base-to in
     let e = c.relocate-moved.ensures in
-    one_move c.args.pool.now f.new.self c.relocate-moved.new.pool c.args.other f.result c.relocate-moved.result f.ensures.kept e.moved e.count
+    one_move c.args.pool.now f.new.self c.relocate-moved.new.pool c.args.other f.result c.relocate-moved.result f.ensures.unchanged e.moved e.count

@@ -14,7 +14,7 @@ relocate-moved-requires-clause-member c =
 pub relocate-moved-requires-clause-fits : goal.relocate-moved-requires-clause-fits
 relocate-moved-requires-clause-fits c =
     let f = c.find_free_base-to in
-    subst (λ (p : Pool). FitsAt p.cells c.args.family.now f.result) (sym f.ensures.kept) (fits_less c.args.pool.now.cells c.args.family.now c.args.code f.result f.ensures.free)
+    subst (λ (p : Pool). FitsAt p.cells c.args.family.now f.result) (sym f.ensures.unchanged) (fits_less c.args.pool.now.cells c.args.family.now c.args.code f.result f.ensures.free)
 
 pub returns-clause-cleared : goal.returns-clause-cleared
 returns-clause-cleared c =
@@ -22,12 +22,12 @@ returns-clause-cleared c =
     let f = c.find_free_base-to in
     let e = c.relocate-moved.ensures in
     let new = c.relocate-moved.new.pool in
-    let move = subst (λ (p : Pool). IsMove p.cells new.cells c.args.state f.result) f.ensures.kept e.moved in
-    let top : new.top ≤ c.args.pool.now.top + 257 = subst (λ (p : Pool). new.top ≤ p.top + 257) f.ensures.kept e.top in
+    let move = subst (λ (p : Pool). IsMove p.cells new.cells c.args.state f.result) f.ensures.unchanged e.moved in
+    let top : new.top ≤ c.args.pool.now.top + 257 = subst (λ (p : Pool). new.top ≤ p.top + 257) f.ensures.unchanged e.top in
     cleared_by_own c.args.pool.now new c.args.state c.args.from c.args.code f.result c.args.family.now r.can.built r.can.based r.can.least r.can.code_within r.none r.family f.ensures.free f.ensures.least f.ensures.top r.can.room move e.bases e.root top
 
 pub returns-clause-moved : goal.returns-clause-moved
 returns-clause-moved c =
     let f = c.find_free_base-to in
     let e = c.relocate-moved.ensures in
-    one_move c.args.pool.now f.new.self c.relocate-moved.new.pool c.args.state f.result c.relocate-moved.result f.ensures.kept e.moved e.count
+    one_move c.args.pool.now f.new.self c.relocate-moved.new.pool c.args.state f.result c.relocate-moved.result f.ensures.unchanged e.moved e.count

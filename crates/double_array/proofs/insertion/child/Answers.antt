@@ -1,5 +1,5 @@
 use Rattle.std.proofs.Common.{◌≡◌, ◌+◌, true, false, sym, refl, ◌∙◌}
-use Rattle.cell_walk.proofs.CellWalks.{step_at}
+use Rattle.mj_model.proofs.CellWalks.{step_at}
 use Rattle.double_array.proofs.InsertionLemmas.{no_child_no_step}
 use Rattle.double_array.proofs.insertion.child.Goals as goal
 

@@ -1,6 +1,6 @@
 use Rattle.std.proofs.Common.{◌≡◌, None, length, negsuc, sym, ap, ◌∙◌}
 use Rattle.std.proofs.lemmas.List.{length-set}
-use Rattle.cell_walk.specs.CellMap.{value_of}
+use Rattle.mj_model.specs.CellMap.{value_of}
 use Rattle.double_array.proofs.TailLemmas.{map_then}
 use Rattle.double_array.proofs.InsertionLemmas.{end_in_use, end_within, end_led, end_holds, end_replaced, end_value, end_built, absent, none_still, ready, map_before}
 use Rattle.double_array.proofs.MovedLemmas.{in_place, moved_in_all}
@@ -42,21 +42,21 @@ returns-in_err-make_room-in-None-clause-absent c =
     on_err_by c.from_residual.result (value_of c.args.pool.now.cells c.args.key.now ≡ None)
     (absent c.args.pool.now c.args.key.now c.walk_key-at.result c.code_at-code.result c.requires.built c.requires.some c.walk_key-at.ensures c.code_at-code.ensures.code (sym c.in-None.ensures))
 
-pub clear_way-cleared-requires-clause-none : goal.clear_way-cleared-requires-clause-none
-clear_way-cleared-requires-clause-none c =
+pub free_target_cell-cleared-requires-clause-none : goal.free_target_cell-cleared-requires-clause-none
+free_target_cell-cleared-requires-clause-none c =
     none_still c.args.pool.now c.args.key.now c.walk_key-at.result c.code_at-code.result c.requires.built c.requires.some c.walk_key-at.ensures c.code_at-code.ensures.code (sym c.in-None.ensures)
     c.make_room.new.pool c.in_ok-make_room-in-None.ensures.room
 
 pub add_tail-requires-clause-ready : goal.add_tail-requires-clause-ready
 add_tail-requires-clause-ready c =
     ready c.args.pool.now c.args.key.now c.walk_key-at.result c.code_at-code.result c.requires.built c.requires.some c.walk_key-at.ensures c.code_at-code.ensures.code (sym c.in-None.ensures)
-    c.make_room.new.pool c.in_ok-make_room-in-None.ensures.room c.clear_way-cleared.new.pool c.clear_way-cleared.result.state c.clear_way-cleared.result.wanted c.clear_way-cleared.ensures.cleared
+    c.make_room.new.pool c.in_ok-make_room-in-None.ensures.room c.free_target_cell-cleared.new.pool c.free_target_cell-cleared.result.state c.free_target_cell-cleared.result.wanted c.free_target_cell-cleared.ensures.cleared
 
 pub returns-in_ok-make_room-in-None-clause-map : goal.returns-in_ok-make_room-in-None-clause-map
 returns-in_ok-make_room-in-None-clause-map c =
-    map_then c.args.pool.now.cells c.clear_way-cleared.new.pool.cells c.add_tail.new.pool.cells c.args.key.now c.args.value
+    map_then c.args.pool.now.cells c.free_target_cell-cleared.new.pool.cells c.add_tail.new.pool.cells c.args.key.now c.args.value
     (map_before c.args.pool.now c.args.key.now c.walk_key-at.result c.code_at-code.result c.requires.built c.requires.some c.walk_key-at.ensures c.code_at-code.ensures.code (sym c.in-None.ensures)
-    c.make_room.new.pool c.in_ok-make_room-in-None.ensures.room c.clear_way-cleared.new.pool c.clear_way-cleared.result.state c.clear_way-cleared.result.wanted c.clear_way-cleared.ensures.cleared)
+    c.make_room.new.pool c.in_ok-make_room-in-None.ensures.room c.free_target_cell-cleared.new.pool c.free_target_cell-cleared.result.state c.free_target_cell-cleared.result.wanted c.free_target_cell-cleared.ensures.cleared)
     c.add_tail.ensures.map
 
 pub returns-in_ok-make_room-in-None-clause-old : goal.returns-in_ok-make_room-in-None-clause-old
@@ -78,8 +78,8 @@ returns-in-Some-clause-present c = λ present. ap length c.replace_value.ensures
 
 pub returns-in_ok-make_room-in-None-clause-moved : goal.returns-in_ok-make_room-in-None-clause-moved
 returns-in_ok-make_room-in-None-clause-moved c =
-    moved_in_all c.args.pool.now.cells c.make_room.new.pool.cells c.clear_way-cleared.new.pool.cells c.add_tail.new.pool.cells c.args.key.now c.clear_way-cleared.result.moved c.in_ok-make_room-in-None.ensures.room.same
-    (c.add_tail.ensures.long ∙ c.clear_way-cleared.ensures.cleared.long) c.add_tail.ensures.kept c.clear_way-cleared.ensures.moved
+    moved_in_all c.args.pool.now.cells c.make_room.new.pool.cells c.free_target_cell-cleared.new.pool.cells c.add_tail.new.pool.cells c.args.key.now c.free_target_cell-cleared.result.moved c.in_ok-make_room-in-None.ensures.room.same
+    (c.add_tail.ensures.long ∙ c.free_target_cell-cleared.ensures.cleared.long) c.add_tail.ensures.unchanged c.free_target_cell-cleared.ensures.moved
 
 pub returns-in_ok-make_room-in-None-clause-space : goal.returns-in_ok-make_room-in-None-clause-space
-returns-in_ok-make_room-in-None-clause-space c = λ space. c.add_tail.ensures.long ∙ c.clear_way-cleared.ensures.cleared.long ∙ c.in_ok-make_room-in-None.ensures.space space
+returns-in_ok-make_room-in-None-clause-space c = λ space. c.add_tail.ensures.long ∙ c.free_target_cell-cleared.ensures.cleared.long ∙ c.in_ok-make_room-in-None.ensures.space space

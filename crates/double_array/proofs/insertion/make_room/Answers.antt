@@ -1,5 +1,5 @@
 use Rattle.std.proofs.Common.{arith, ◌+◌, sym, subst}
-use Rattle.double_array.specs.Built.{IsBuilt}
+use Rattle.double_array.specs.Built.{MeetsInvariants}
 use Rattle.double_array.proofs.InsertionLemmas.{grown_built, on_passed}
 use Rattle.double_array.proofs.RoomLemmas.{by_result, on_both, room_here, room_of}
 use Rattle.double_array.proofs.insertion.make_room.Goals as goal
@@ -20,9 +20,9 @@ pub returns-clause-built : goal.returns-clause-built
 returns-clause-built c =
     let low = c.has_room.new.pool in
     let n = c.len.result + c.args.key_length + 600 in
-    by_result c.grow.result (on_both _ _ c.grow.result c.grow.ensures.grown c.grow.ensures.top) c.grow.ensures.kept
+    by_result c.grow.result (on_both _ _ c.grow.result c.grow.ensures.grown c.grow.ensures.top) c.grow.ensures.unchanged
     (λ both. (grown_built low c.grow.new.self n c.args.key_length c.args.left c.has_room.ensures.built both.0 both.1 (omega (arith, c.len.ensures.length)) c.if-wanted-gt-CELLS_MAX.false c.requires.left).built)
-    (λ kept. subst IsBuilt (sym kept) c.has_room.ensures.built)
+    (λ kept. subst MeetsInvariants (sym kept) c.has_room.ensures.built)
 
 pub returns-clause-space : goal.returns-clause-space
 returns-clause-space c = λ space. absurd (c.has_room.ensures.none c.if-has_room.false c.args.key_length c.requires.left space)

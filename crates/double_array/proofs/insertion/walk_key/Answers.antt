@@ -1,5 +1,5 @@
 use Rattle.std.proofs.Common.{◌+◌, length, sym, refl, arith, slice_index_or}
-use Rattle.cell_walk.proofs.CellWalks.{named_within, step_named}
+use Rattle.mj_model.proofs.CellWalks.{named_within, step_named}
 use Rattle.double_array.proofs.InsertionLemmas.{walked_none, walked_more, walked_stopped, walked_all, byte_state}
 use Rattle.double_array.proofs.insertion.walk_key.Goals as goal
 

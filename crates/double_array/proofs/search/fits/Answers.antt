@@ -1,8 +1,8 @@
 use Rattle.std.proofs.Common.{rules, arith, ◌≡◌, ℕ, ◌+◌, below_more, w32}
 use mir.Val.{SFits}
 use Rattle.std.proofs.lemmas.Option.{slice_get_within}
-use Rattle.cell_walk.specs.CellMap.{free_cell, cell_at}
-use Rattle.double_array.specs.Seen.{cells_as_seen}
+use Rattle.mj_model.specs.CellMap.{free_cell, cell_at}
+use Rattle.double_array.specs.Views.{cell_views}
 use Rattle.double_array.specs.Family.{HasCode}
 use Rattle.double_array.proofs.PoolLemmas.{free_by_check, no_code}
 use Rattle.double_array.proofs.search.fits.Goals as goal
@@ -13,7 +13,7 @@ overflow_add-base c = omega (arith, c.requires.within, c.requires.few, c.require
 
 pub loop-code-preserved : goal.loop-code-preserved
 loop-code-preserved c =
-    below_more (λ (k : ℕ). HasCode c.args.family.now k → cell_at (cells_as_seen c.args.cells.now) (c.args.base + k) ≡ free_cell) c.loop-code.code c.loop-code.invariant
+    below_more (λ (k : ℕ). HasCode c.args.family.now k → cell_at (cell_views c.args.cells.now) (c.args.base + k) ≡ free_cell) c.loop-code.code c.loop-code.invariant
     (elim c.else-member.branch [
       | else-member-via-then-member+else-get-ge0 w ↦ λ has.
           let fits : SFits w32 w.get.result.1 = search rules in

@@ -1,7 +1,7 @@
 use Rattle.std.proofs.Common.{arith, List, ◌+◌, pos, refl, ap, ◌∙◌}
-use Rattle.cell_walk.specs.CellMap.{Cell, check}
+use Rattle.mj_model.specs.CellMap.{Cell, check}
 use Rattle.double_array.specs.Pool.IsInUse.{is_named}
-use Rattle.double_array.proofs.SeenLemmas.{at_same}
+use Rattle.double_array.proofs.ViewLemmas.{at_same}
 use Rattle.double_array.proofs.TailLemmas.{state_added}
 use Rattle.double_array.proofs.tail.add_state.Goals as goal
 

@@ -1,7 +1,7 @@
 use Rattle.std.proofs.Common.{arith, ◌≡◌, ◌<◌, ◌≤◌, ℕ, length, get_or, subst, ◌∙◌}
-use Rattle.cell_walk.specs.CellMap.{codes_of}
+use Rattle.mj_model.specs.CellMap.{codes_of}
 use Rattle.double_array.specs.Tail.{IsReady}
-use Rattle.cell_walk.proofs.KeyWalks.{code_of_byte}
+use Rattle.mj_model.proofs.KeyWalks.{code_of_byte}
 use Rattle.double_array.proofs.TailLemmas.{ready_more, map_on, long_on, value_added, built_again, map_then}
 use Rattle.double_array.proofs.MovedLemmas.{kept_more, wanted_inner}
 use Rattle.double_array.proofs.tail.add_tail.Goals as goal
@@ -38,6 +38,6 @@ pub returns-clause-built : goal.returns-clause-built
 returns-clause-built c =
     built_again c.loop-i.pool c.add_value.new.pool c.args.key.now c.loop-i.state c.loop-i.wanted c.args.value (last c) c.requires.key c.requires.value c.add_value.ensures.cells c.add_value.ensures.top
 
-pub returns-clause-kept : goal.returns-clause-kept
-returns-clause-kept c =
+pub returns-clause-unchanged : goal.returns-clause-unchanged
+returns-clause-unchanged c =
     kept_more c.args.pool.now.cells c.loop-i.pool.cells c.add_value.new.pool.cells c.loop-i.wanted _ c.loop-i.invariant.kept (last c).free (wanted_inner c.loop-i.pool c.args.key.now (length c.args.key.now) c.loop-i.state c.loop-i.wanted (last c)) c.add_value.ensures.cells

@@ -1,6 +1,6 @@
 use Rattle.std.proofs.Common.{arith, ◌≡◌, ℕ, length, get_or, ap, sym, ◌∙◌}
-use Rattle.cell_walk.specs.CellMap.{codes_of}
-use Rattle.cell_walk.proofs.KeyWalks.{code_of_byte, code_of_end}
+use Rattle.mj_model.specs.CellMap.{codes_of}
+use Rattle.mj_model.proofs.KeyWalks.{code_of_byte, code_of_end}
 use Rattle.double_array.proofs.tail.code_at.Goals as goal
 
 pub returns-then-i-key-clause-code : goal.returns-then-i-key-clause-code

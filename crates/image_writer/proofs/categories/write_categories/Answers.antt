@@ -1,7 +1,7 @@
 use Rattle.std.proofs.Common.{ap, ◌∙◌, arith}
 use Rattle.std.specs.Prelude.{flat_map}
 use Rattle.std.proofs.lemmas.List.{take_all}
-use Rattle.image_bytes.specs.ImageSections.{category_bytes}
+use Rattle.image_format.specs.ImageSections.{category_bytes}
 use Rattle.image_writer.proofs.CategoryLemmas.{categories_are}
 use Rattle.image_writer.proofs.categories.write_categories.Goals as goal
 

@@ -1,6 +1,6 @@
 use Rattle.std.proofs.Common.{◌≡◌, take}
 use Rattle.std.specs.Prelude.{flat_map}
-use Rattle.image_bytes.specs.ImageSections.{category_bytes}
+use Rattle.image_format.specs.ImageSections.{category_bytes}
 use Rattle.image_writer.proofs.categories.write_categories.Given as goal
 
 abbrev pub invariant-loop-i : goal.invariant-loop-i

@@ -1,6 +1,6 @@
 use Rattle.std.proofs.Common.{◌++◌, List, ℕ, append_assoc, ap, ◌∙◌}
 use Rattle.std.proofs.lemmas.Result.{on_ok_weaker}
-use Rattle.image_bytes.specs.ImageBytes.{image_magic}
+use Rattle.image_format.specs.ImageBytes.{image_magic}
 use Rattle.image_writer.specs.Frames.{length_bytes, number_bytes}
 use Rattle.image_writer.proofs.header.append_header.Goals as goal
 

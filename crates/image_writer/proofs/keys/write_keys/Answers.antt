@@ -1,7 +1,7 @@
 use Rattle.std.proofs.Common.{◌≡◌, ◌<◌, ◌+◌, ◌*◌, ℕ, List, length, get_or, ap, sym, ◌∙◌, rules, arith, subst}
 use Rattle.std.specs.Prelude.{IsUtf8}
 use Rattle.std.proofs.lemmas.List.{length-map}
-use Rattle.image_bytes.specs.ImageSections.{index_at}
+use Rattle.image_format.specs.ImageSections.{index_at}
 use Rattle.mj_model.specs.Lexicon.{Row, row_of}
 use Rattle.image_writer.specs.Entries.{surface_at}
 use Rattle.image_writer.proofs.KeyLemmas.{key_bytes, texts_of}

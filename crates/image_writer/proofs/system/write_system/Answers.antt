@@ -5,9 +5,9 @@ use Rattle.mj_model.specs.declared.limits.TheConstants.{ENTRIES_MAX}
 use Rattle.mj_model.specs.declared.matrix_sizes.MatrixSizes.{MatrixSizes}
 use Rattle.mj_model.specs.Lexicon.{Row, row_of}
 use Rattle.lex_source.specs.Lexicons.{AreLexiconRows}
-use Rattle.image_bytes.specs.declared.header.Header.{Header}
-use Rattle.image_bytes.specs.declared.kind.DictKind.TheVariants as dict
-use Rattle.image_bytes.specs.declared.layout.TheConstants.{LAYOUT}
+use Rattle.image_format.specs.declared.header.Header.{Header}
+use Rattle.image_format.specs.declared.kind.DictKind.TheVariants as dict
+use Rattle.image_format.specs.declared.layout.TheConstants.{LAYOUT}
 use Rattle.image_writer.specs.Frames.{IsFramed, sections_with}
 use Rattle.image_writer.specs.Places.{joined_texts}
 use Rattle.image_writer.specs.StoredTables.{AreCostsOf, AreUnknownOf, cost_section}

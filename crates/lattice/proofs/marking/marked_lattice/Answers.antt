@@ -1,14 +1,14 @@
 use Rattle.std.proofs.Common.{sym, subst}
-use Rattle.lattice_nodes.proofs.OnPathLemmas.{lattice_by_place, path_rises}
-use Rattle.lattice_nodes.specs.OnPath.{AreByPlace}
-use Rattle.paths.specs.Words.{words}
+use Rattle.viterbi.proofs.OnPathLemmas.{lattice_by_place, path_rises}
+use Rattle.viterbi.specs.Nodes.OnPath.{AreByPlace}
+use Rattle.mj_model.specs.Words.{words}
 use Rattle.std.specs.Prelude.{length}
 use Rattle.word_lookup.proofs.DictionaryLaws.{searchable}
 use Rattle.word_lookup.specs.Overlays.{overlay_of}
 use Rattle.lattice.proofs.marking.marked_lattice.Goals as goal
 
-pub nodes_on_path-requires : goal.nodes_on_path-requires
-nodes_on_path-requires c =
+pub mark_nodes_on_path-requires : goal.mark_nodes_on_path-requires
+mark_nodes_on_path-requires c =
     let d = c.args.dictionaries.now in
     let text = c.args.text.now in
     let best = c.requires.best in

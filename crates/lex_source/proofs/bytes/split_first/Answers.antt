@@ -1,4 +1,4 @@
-use Rattle.lex_source.proofs.CutLemmas.{not_found, cut_at}
+use Rattle.lex_source.proofs.SplitLemmas.{not_found, cut_at}
 use Rattle.std.proofs.Common.{eqb}
 use Rattle.lex_source.proofs.bytes.split_first.Goals as goal
 

@@ -1,4 +1,4 @@
-use Rattle.lex_source.proofs.CutLemmas.{behind_all}
+use Rattle.lex_source.proofs.SplitLemmas.{behind_all}
 use Rattle.lex_source.proofs.LineLemmas.{cut_lines, last_line}
 use Rattle.lex_source.proofs.numbered.first_line.Goals as goal
 

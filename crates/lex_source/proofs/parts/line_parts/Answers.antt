@@ -41,6 +41,6 @@ returns c =
     let four = with_rest _ _ _ _ _ c.first-cost.ensures c.in_ok-cost.was in
     record {
       parts = record { surface = one.field; left = two.field; right = three.field; cost = four.field; feature = c.in_ok-cost.field-0.now };
-      stands = record { surface = one.spelled; left = two.spelled; right = three.spelled; cost = four.spelled; feature = refl };
+      lies = record { surface = one.spelled; left = two.spelled; right = three.spelled; cost = four.spelled; feature = refl };
       first = (c.in_ok-surface.field-0.now, one.first, (c.in_ok-left.field-0.now, two.first, (c.in_ok-right.field-0.now, three.first, (c.in_ok-cost.field-0.now, four.first, refl))));
     }

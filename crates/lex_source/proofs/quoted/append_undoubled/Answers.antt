@@ -6,12 +6,12 @@ use Rattle.lex_source.proofs.quoted.append_undoubled.Goals as goal
 pub split_around-requires-clause-within : goal.split_around-requires-clause-within
 split_around-requires-clause-within g c =
     let left = c.loop-before.invariant.left c.requires.0 c.requires.1 in
-    (behind_quote c.loop-before.rest.now c.in-Some.before.now c.in-Some.behind.now (left.0, left.1) c.in-Some.ensures).0
+    (behind_quote c.loop-before.rest.now c.in-Some.before.now c.in-Some.following.now (left.0, left.1) c.in-Some.ensures).0
 
 pub split_around-requires-clause-ascii : goal.split_around-requires-clause-ascii
 split_around-requires-clause-ascii g c =
     let left = c.loop-before.invariant.left c.requires.0 c.requires.1 in
-    (behind_quote c.loop-before.rest.now c.in-Some.before.now c.in-Some.behind.now (left.0, left.1) c.in-Some.ensures).1
+    (behind_quote c.loop-before.rest.now c.in-Some.before.now c.in-Some.following.now (left.0, left.1) c.in-Some.ensures).1
 
 pub loop-before-preserved : goal.loop-before-preserved
 loop-before-preserved g c =
@@ -23,8 +23,8 @@ loop-before-preserved g c =
     let pushed = c.in_ok-push_text-2.ensures.appended ∙ ap (λ (xs : List ℕ). xs ++ 34 ∷ []) c.in_ok-push_text.ensures.appended in
     record {
       utf8 = search rules;
-      left = λ field is. read_more c.args.raw.now (old ++ field) c.loop-before.rest.now before c.in-Some.behind.now done c.split_around.result.1.now after (c.loop-before.invariant.left field is)
-          c.in-Some.ensures c.split_around.ensures.behind pushed;
+      left = λ field is. read_more c.args.raw.now (old ++ field) c.loop-before.rest.now before c.in-Some.following.now done c.split_around.result.1.now after (c.loop-before.invariant.left field is)
+          c.in-Some.ensures c.split_around.ensures.after pushed;
       front = front_more old done (before ++ 34 ∷ []) after c.loop-before.invariant.front (pushed ∙ append_assoc done before (34 ∷ []));
     }
 

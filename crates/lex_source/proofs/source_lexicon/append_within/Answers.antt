@@ -3,8 +3,8 @@ use Rattle.mj_model.specs.Dictionary.{first_outside}
 use Rattle.lex_source.proofs.EntryLemmas.{added_slice, as_held, held_rows}
 use Rattle.lex_source.proofs.source_lexicon.append_within.Goals as goal
 
-pub returns-in-Some-clause-refused : goal.returns-in-Some-clause-refused
-returns-in-Some-clause-refused c =
+pub returns-in-Some-clause-rejected : goal.returns-in-Some-clause-rejected
+returns-in-Some-clause-rejected c =
     let read = c.in_ok-skipped.ensures.accepted in
     let rows = added_slice c.args.records.now.items c.read_lexicon.new.out.items c.deref.result.now c.len-held.result read.0 c.deref.ensures.value read.2 (c.len-held.ensures ∙ c.args.records.now.ok.0) in
     rw c.at.ensures (inr (inr (

@@ -4,9 +4,9 @@ use Rattle.line_stream.proofs.piece.work.Given as goal
 
 abbrev pub invariant-loop-at : goal.invariant-loop-at
 invariant-loop-at g l =
-    Working (g.P.LinePrinter.tells l.printer) l.initial.progress.lines (length l.piece) (l.initial.progress.pending.items ++ l.piece)
+    Working (g.P.LinePrinter.line_result l.printer) l.initial.progress.lines (length l.piece) (l.initial.progress.pending.items ++ l.piece)
     l.progress.pending.items l.rest l.progress.lines l.progress.out.items
-    (g.W.TextOut.told l.initial.writer) (g.W.TextOut.told l.writer) l.initial.sent l.sent
+    (g.W.TextOut.state l.initial.writer) (g.W.TextOut.state l.writer) l.initial.sent l.sent
 
 abbrev pub decreases-loop-at : goal.decreases-loop-at
 decreases-loop-at g l = length l.rest

@@ -2,9 +2,9 @@ use Rattle.std.proofs.Common.{arith, ◌+◌, length, take, refl, sym, subst, le
 use Rattle.std.specs.Io.KnownBytes.{Consumes}
 use Rattle.std.proofs.lemmas.Result.{err_from_is_err_and}
 use Rattle.std.specs.Prelude.{Err}
-use Rattle.mj_model.specs.declared.run_fault.RunFault.TheVariants as run
-use Rattle.line_stream.specs.Progress.{HasNoFeed}
-use Rattle.line_stream.specs.Runs.{both_told}
+use Rattle.line_stream.specs.declared.line_fault.StreamFault.TheVariants as stream
+use Rattle.line_stream.specs.StreamState.{HasNoFeed}
+use Rattle.line_stream.specs.Runs.{run_state}
 use Rattle.line_stream.proofs.RunWork.{running_more, open_no_feed}
 use Rattle.line_stream.proofs.RunEnds.{ran_of, ran_read_failed, ran_bound, ran_work, ran_finish}
 use Rattle.line_stream.proofs.WritingLemmas.{no_failure, one_end}
@@ -26,21 +26,21 @@ loop-turn-preserved g c =
     let some = c.in-Ok.n-test.1 in
     let fits = c.in-Ok.ensures.bound in
     let small = c.requires.buffer.1 in
-    running_more (g.P.LinePrinter.tells c.args.printer.now) _ _ _ _ _ _ _ _ _ c.loop-turn._turn
+    running_more (g.P.LinePrinter.line_result c.args.printer.now) _ _ _ _ _ _ _ _ _ c.loop-turn._turn
     c.loop-turn.progress.pending.items c.loop-turn.progress.out.items (take taken c.read_counted.new.buf) c.loop-turn.progress.lines c.loop-turn.sent
     c.work.new.progress.pending.items c.work.new.progress.out.items c.work.new.progress.lines c.work.new.sent
-    c.loop-turn.invariant c.in-Ok.ensures.bytes.0 (omega (arith, some, fits, len)) (omega (arith, kept, same, len, small)) c.in_ok-work.ensures.worked c.in_ok-work.ensures.open
+    c.loop-turn.invariant c.in-Ok.ensures.bytes.0 (omega (arith, some, fits, len)) (omega (arith, kept, same, len, small)) c.in_ok-work.ensures.processed c.in_ok-work.ensures.open
     c.in_ok-work.ensures.short c.in_ok-work.ensures.nothing_waits c.in_ok-work.ensures.few_lines c.in_ok-work.ensures.few_bytes c.in-Ok.ensures.reads
     (omega (arith, ends, none)) (omega (arith, failures)) c.in_ok-work.ensures.no_flush
 
 pub returns-in_err-work : goal.returns-in_err-work
 returns-in_err-work g c =
     let p = err_from_is_err_and c.from_residual.result c.from_residual.ensures.1 in
-    let from = g.R.TextIn.told c.args.reader.now in
-    let to = g.R.TextIn.told c.read_counted.new.self in
-    let before = g.W.TextOut.told c.args.writer.now in
-    let after = g.W.TextOut.told c.work.new.writer in
-    let Tells = g.P.LinePrinter.tells c.args.printer.now in
+    let from = g.R.TextIn.state c.args.reader.now in
+    let to = g.R.TextIn.state c.read_counted.new.self in
+    let before = g.W.TextOut.state c.args.writer.now in
+    let after = g.W.TextOut.state c.work.new.writer in
+    let Reports = g.P.LinePrinter.line_result c.args.printer.now in
     let taken = c.in-Ok.n in
     let none = no_failure taken (nat_lt 0 (length c.loop-turn.buffer)) c.in-Ok.n-test.1 in
     let ends = c.in-Ok.ensures.ends in
@@ -52,8 +52,8 @@ returns-in_err-work g c =
     let fits = c.in-Ok.ensures.bound in
     let small = c.requires.buffer.1 in
     rw (p.1, p.2) (record {
-      run = ran_of Tells c.args.bound from to before after (Err c.in_err-work.field-0.0)
-          (ran_work Tells c.args.bound _ _ _ _ _ _ _ _ (both_told to after) c.loop-turn._turn
+      run = ran_of Reports c.args.bound from to before after (Err c.in_err-work.field-0.0)
+          (ran_work Reports c.args.bound _ _ _ _ _ _ _ _ (run_state to after) c.loop-turn._turn
           c.loop-turn.progress.pending.items c.loop-turn.progress.out.items c.loop-turn.progress.lines c.loop-turn.sent c.loop-turn.invariant
           c.loop-turn-test.true c.in-Ok.ensures.reads (omega (arith, failures))
           (take taken c.read_counted.new.buf) c.in_err-work.field-0.0 c.in-Ok.ensures.bytes.0 (omega (arith, some, fits, len)) (omega (arith, kept, same, len, small))
@@ -62,23 +62,23 @@ returns-in_err-work g c =
 
 pub returns-in-Ok-eq0 : goal.returns-in-Ok-eq0
 returns-in-Ok-eq0 g c =
-    let from = g.R.TextIn.told c.args.reader.now in
-    let to = g.R.TextIn.told c.read_counted.new.self in
-    let before = g.W.TextOut.told c.args.writer.now in
-    let after = g.W.TextOut.told c.finish.new.writer in
-    let Tells = g.P.LinePrinter.tells c.args.printer.now in
+    let from = g.R.TextIn.state c.args.reader.now in
+    let to = g.R.TextIn.state c.read_counted.new.self in
+    let before = g.W.TextOut.state c.args.writer.now in
+    let after = g.W.TextOut.state c.finish.new.writer in
+    let Reports = g.P.LinePrinter.line_result c.args.printer.now in
     let ends = c.in-Ok-eq0.ensures.ends in
     let failures = c.in-Ok-eq0.ensures.failures in
     let kept = c.loop-turn.auto.buffer in
     let some = c.requires.buffer.0 in
     let none = c.in-Ok-eq0.field-0-test in
     let one = one_end c.in-Ok-eq0.field-0 (length c.loop-turn.buffer) none (omega (arith, kept, some)) in
-    let took = subst (λ n. Consumes (g.R.TextIn.told c.loop-turn.reader).left to.left (take n c.read_counted.new.buf)) none c.in-Ok-eq0.ensures.bytes.0 in
+    let took = subst (λ n. Consumes (g.R.TextIn.state c.loop-turn.reader).left to.left (take n c.read_counted.new.buf)) none c.in-Ok-eq0.ensures.bytes.0 in
     let buffer = c.read_counted.auto.buf in
     let at_end = c.in-Ok-eq0.ensures.bytes.1 none (omega (arith, kept, buffer, some)) in
     record {
-      run = ran_of Tells c.args.bound from to before after c.finish.result
-          (ran_finish Tells c.args.bound _ _ _ _ _ _ _ _ (both_told to after) c.loop-turn._turn
+      run = ran_of Reports c.args.bound from to before after c.finish.result
+          (ran_finish Reports c.args.bound _ _ _ _ _ _ _ _ (run_state to after) c.loop-turn._turn
           c.loop-turn.progress.pending.items c.loop-turn.progress.out.items c.loop-turn.progress.lines c.loop-turn.sent c.loop-turn.invariant
           c.loop-turn-test.true c.in-Ok-eq0.ensures.reads (omega (arith, failures))
           c.finish.result c.finish.new.sent took at_end (omega (arith, ends, one)) c.finish.ensures.finished c.finish.ensures.one_flush
@@ -87,17 +87,17 @@ returns-in-Ok-eq0 g c =
 
 pub returns-in-Err : goal.returns-in-Err
 returns-in-Err g c =
-    let from = g.R.TextIn.told c.args.reader.now in
-    let to = g.R.TextIn.told c.read_counted.new.self in
-    let before = g.W.TextOut.told c.args.writer.now in
-    let after = g.W.TextOut.told c.loop-turn.writer in
-    let Tells = g.P.LinePrinter.tells c.args.printer.now in
-    let now = g.R.TextIn.told c.loop-turn.reader in
+    let from = g.R.TextIn.state c.args.reader.now in
+    let to = g.R.TextIn.state c.read_counted.new.self in
+    let before = g.W.TextOut.state c.args.writer.now in
+    let after = g.W.TextOut.state c.loop-turn.writer in
+    let Reports = g.P.LinePrinter.line_result c.args.printer.now in
+    let now = g.R.TextIn.state c.loop-turn.reader in
     let ends = c.in-Err.ensures.ends in
     record {
-      run = ran_of Tells c.args.bound from to before after (Err (run.Read (c.loop-turn.progress.lines + 1)))
-          (ran_read_failed Tells c.args.bound from.left now.left to.left before.held after.held after.held
-          (both_told from before) (both_told now after) (both_told to after) c.loop-turn._turn
+      run = ran_of Reports c.args.bound from to before after (Err (stream.Read (c.loop-turn.progress.lines + 1)))
+          (ran_read_failed Reports c.args.bound from.left now.left to.left before.held after.held after.held
+          (run_state from before) (run_state now after) (run_state to after) c.loop-turn._turn
           c.loop-turn.progress.pending.items c.loop-turn.progress.out.items c.loop-turn.progress.lines c.loop-turn.sent c.loop-turn.invariant
           (c.loop-turn.progress.lines + 1) refl c.in-Err.ensures.bytes c.loop-turn-test.true c.in-Err.ensures.reads
           (omega (arith, ends)) c.in-Err.ensures.failures refl refl);
@@ -105,17 +105,17 @@ returns-in-Err g c =
 
 pub returns : goal.returns
 returns g c =
-    let from = g.R.TextIn.told c.args.reader.now in
-    let to = g.R.TextIn.told c.loop-turn.reader in
-    let before = g.W.TextOut.told c.args.writer.now in
-    let after = g.W.TextOut.told c.loop-turn.writer in
-    let Tells = g.P.LinePrinter.tells c.args.printer.now in
+    let from = g.R.TextIn.state c.args.reader.now in
+    let to = g.R.TextIn.state c.loop-turn.reader in
+    let before = g.W.TextOut.state c.args.writer.now in
+    let after = g.W.TextOut.state c.loop-turn.writer in
+    let Reports = g.P.LinePrinter.line_result c.args.printer.now in
     let most = c.loop-turn.auto._turn-end in
     let past = c.loop-turn-test.false in
     record {
-      run = ran_of Tells c.args.bound from to before after (Err (run.InputTooLong (c.loop-turn.progress.lines + 1)))
-          (ran_bound Tells c.args.bound from.left to.left to.left before.held after.held after.held
-          (both_told from before) (both_told to after) (both_told to after) c.loop-turn._turn
+      run = ran_of Reports c.args.bound from to before after (Err (stream.InputTooLong (c.loop-turn.progress.lines + 1)))
+          (ran_bound Reports c.args.bound from.left to.left to.left before.held after.held after.held
+          (run_state from before) (run_state to after) (run_state to after) c.loop-turn._turn
           c.loop-turn.progress.pending.items c.loop-turn.progress.out.items c.loop-turn.progress.lines c.loop-turn.sent c.loop-turn.invariant
           (c.loop-turn.progress.lines + 1) refl (omega (arith, most, past)));
     }

@@ -1,17 +1,17 @@
 use Rattle.std.proofs.Common.{rules, ◌≡◌, ◌<◌, ◌^◌, [], length, Err}
 use Rattle.std.proofs.lemmas.Result.{IfErr-weaker}
 use Rattle.mj_model.specs.Connection.{connection_of}
-use Rattle.mj_model.specs.FirstFault.{IsRefusal}
-use Rattle.matrix_def.specs.Reading.{told_connection}
+use Rattle.mj_model.specs.FirstFault.{IsMemoryOr}
+use Rattle.matrix_def.specs.Reading.{reported_connection}
 use Rattle.matrix_def.proofs.NumberLemmas.{told_refusal}
 use Rattle.matrix_def.proofs.read.read_matrix.Goals as goal
 
 pub returns-clause-accepted : goal.returns-clause-accepted
 returns-clause-accepted c = c.finish.ensures.accepted c.args.bytes.now (c.in_ok-read.ensures.read [] c.new.ensures)
 
-pub returns-clause-refused : goal.returns-clause-refused
-returns-clause-refused c =
+pub returns-clause-rejected : goal.returns-clause-rejected
+returns-clause-rejected c =
     let bytes = c.args.bytes.now in
     let short : length bytes < 2 ^ 64 = search rules in
-    IfErr-weaker c.finish.result (λ fault. IsRefusal fault (told_connection bytes ≡ Err fault)) (λ fault. IsRefusal fault (connection_of bytes ≡ Err fault))
-    (λ fault h. told_refusal bytes fault short h) (c.finish.ensures.refused bytes (c.in_ok-read.ensures.read [] c.new.ensures))
+    IfErr-weaker c.finish.result (λ fault. IsMemoryOr fault (reported_connection bytes ≡ Err fault)) (λ fault. IsMemoryOr fault (connection_of bytes ≡ Err fault))
+    (λ fault h. told_refusal bytes fault short h) (c.finish.ensures.rejected bytes (c.in_ok-read.ensures.read [] c.new.ensures))

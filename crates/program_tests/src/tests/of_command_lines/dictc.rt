@@ -1,33 +1,32 @@
 //! Command lines of `dictc`.
 
-mod index_habits;
-
-use Asked::{AllFaults, System, Told, Trusting, User};
-use command_lines::dictc::{Asked as AskedFor, Base, IdsOptions, Options, options};
+use crate::tests::texts::{subjects, texts};
+use Command::{AllFaults, System, Told, Trusting, User};
+use command_lines::dictc::{Base, Command as AskedFor, IdsOptions, Options, parse_command};
 use std::alloc::{AllocError, Global};
 use std::string::String;
 use std::test::Fail;
-use test_words::words;
+use test_support::text::words;
 
-/// What a command line asks for, with the image to write `o`. Lexicons stand in one text, with a
-/// blank between.
-enum Asked {
-    /// A system dictionary of the definitions `m`, `c` and `u` and of these lexicons.
+/// The expected meaning of a command line that writes the image `o`. Lexicons are one text,
+/// separated by blanks.
+enum Command {
+    /// Compiles a system dictionary from the definitions `m`, `c` and `u` and these lexicons.
     System(&'static str),
-    /// The same, and what is done is to be said.
+    /// Compiles a system dictionary with log messages on.
     Told(&'static str),
-    /// The same, and all faults are to be told.
+    /// Compiles a system dictionary and reports all errors.
     AllFaults(&'static str),
-    /// A user dictionary for this system, of these lexicons.
+    /// Compiles a user dictionary of these lexicons for this system image.
     User(&'static str, &'static str),
-    /// The same, without the test of the system's digest.
+    /// Compiles a user dictionary without checking the system image's checksum.
     Trusting(&'static str, &'static str),
 }
 
-impl Asked {
-    fn options(&self, alloc: Global) -> Result<Options, AllocError> {
+impl Command {
+    fn parse_command(&self, alloc: Global) -> Result<Options, AllocError> {
         let (base, lexicons) = match self {
-            Asked::System(lexicons) | Asked::Told(lexicons) | Asked::AllFaults(lexicons) => {
+            Command::System(lexicons) | Command::Told(lexicons) | Command::AllFaults(lexicons) => {
                 let definitions = Base::Definitions {
                     matrix: String::from_str(alloc, "m")?,
                     chars: String::from_str(alloc, "c")?,
@@ -35,10 +34,10 @@ impl Asked {
                 };
                 (definitions, lexicons)
             }
-            Asked::User(dic, lexicons) | Asked::Trusting(dic, lexicons) => {
+            Command::User(dic, lexicons) | Command::Trusting(dic, lexicons) => {
                 let system = Base::System {
                     dic: String::from_str(alloc, dic)?,
-                    skip_digest: matches!(self, Asked::Trusting(_, _)),
+                    skip_digest: matches!(self, Command::Trusting(_, _)),
                 };
                 (system, lexicons)
             }
@@ -47,26 +46,29 @@ impl Asked {
             base,
             out: String::from_str(alloc, "o")?,
             lexicons: words(alloc, lexicons)?,
-            all_faults: matches!(self, Asked::AllFaults(_)),
-            verbose: matches!(self, Asked::Told(_)),
+            all_faults: matches!(self, Command::AllFaults(_)),
+            verbose: matches!(self, Command::Told(_)),
         })
     }
 }
 
-/// Whether this is what a command line asks for.
-fn is_asked(alloc: Global, given: &str, wanted: &AskedFor) -> Result<bool, AllocError> {
-    Ok(match options(alloc, words(alloc, given)?) {
-        Ok(found) => found == *wanted,
-        Err(_) => false,
-    })
+/// Returns whether the command line `given` is parsed as `wanted`.
+fn is_verbose(alloc: Global, given: &str, wanted: &AskedFor) -> Result<bool, AllocError> {
+    Ok(
+        match parse_command(alloc, words(alloc, given)?, &texts(&subjects())) {
+            Ok(found) => found == *wanted,
+            Err(_) => false,
+        },
+    )
 }
 
 #[rattlefmt::skip]
-static COMMAND_LINES: [(&str, &str, Asked); 8] = [
-    // (what, words, what is asked for)
+static COMMAND_LINES: [(&str, &str, Command); 8] = [
+    // (what, arguments, the expected meaning)
     ("a system", "system --matrix m --char c --unk u --out o a.csv", System("a.csv")),
     ("options with =", "system b --out=o --unk=u a --char=c --matrix=m", System("b a")),
-    ("all faults", "system --matrix m --char c --unk u --out o --all-faults a.csv", AllFaults("a.csv")),
+    ("all faults", "system --matrix m --char c --unk u --out o --all-faults a.csv",
+        AllFaults("a.csv")),
     ("what is done", "system --matrix m --char c --unk u --out o -v a.csv", Told("a.csv")),
     ("a user", "user --dic sys.img --out o a.csv", User("sys.img", "a.csv")),
     ("a user, without the digest", "user --skip-digest --dic s --out o a", Trusting("s", "a")),
@@ -77,15 +79,15 @@ static COMMAND_LINES: [(&str, &str, Asked); 8] = [
 #[test]
 fn command_lines(rt: HostRuntime) -> Result<(), Fail> {
     for (what, given, asked) in &COMMAND_LINES {
-        let wanted = AskedFor::Image(asked.options(rt.alloc())?);
-        assert!(rt; is_asked(rt.alloc(), given, &wanted)?, "{what}");
+        let wanted = AskedFor::Image(asked.parse_command(rt.alloc())?);
+        assert!(rt; is_verbose(rt.alloc(), given, &wanted)?, "{what}");
     }
     Ok(())
 }
 
 #[rattlefmt::skip]
 static COMMAND_LINES_OF_IDS: [(&str, &str, &str, bool, bool); 3] = [
-    // (what, words, images of users, whether the digest is skipped, whether steps are said)
+    // (what, arguments, user images, whether the checksum is skipped, whether log messages are on)
     ("a system",       "ids --dic s 名詞,*",                  "",    false, false),
     ("users",          "ids --dic s -u a -u b 名詞,*",        "a b", false, false),
     ("with all words", "ids -v --skip-digest 名詞,* --dic=s", "",    true,  true),
@@ -101,7 +103,7 @@ fn command_lines_of_ids(rt: HostRuntime) -> Result<(), Fail> {
             feature: String::from_str(rt.alloc(), "名詞,*")?,
             verbose: *verbose,
         });
-        assert!(rt; is_asked(rt.alloc(), given, &wanted)?, "{what}");
+        assert!(rt; is_verbose(rt.alloc(), given, &wanted)?, "{what}");
     }
     Ok(())
 }

@@ -1,30 +1,31 @@
-//! Command lines that ask for nothing, and how a program ends at each.
+//! Command lines that run nothing, and the status and text with which a program ends.
 
+use crate::tests::texts::{subjects, texts};
 use Program::{Dictc, Jseg};
 use command_lines::{OptionsFault, dictc, jseg};
 use std::alloc::{AllocError, Global};
 use std::process::Abort;
 use std::test::Fail;
-use test_words::words;
+use test_support::text::words;
 
-/// The program whose command line it is.
+/// The program that parses a command line.
 #[derive(Clone, Copy)]
-pub(crate) enum Program {
+enum Program {
     Dictc,
     Jseg,
 }
 
 impl Program {
-    /// What it answers to a command line that asks for nothing.
+    /// Returns the error or the help for `given`, or nothing if the command line is valid.
     fn fault(self, alloc: Global, given: &str) -> Result<Option<OptionsFault>, AllocError> {
         let words = words(alloc, given)?;
         Ok(match self {
-            Dictc => dictc::options(alloc, words).err(),
-            Jseg => jseg::task(alloc, words).err(),
+            Dictc => dictc::parse_command(alloc, words, &texts(&subjects())).err(),
+            Jseg => jseg::parse_command(alloc, words, &texts(&subjects())).err(),
         })
     }
 
-    /// What the text of a wrong command line begins with.
+    /// Returns the prefix of the text for an invalid command line.
     fn prefix(self) -> &'static str {
         match self {
             Dictc => "dictc: ",
@@ -33,8 +34,11 @@ impl Program {
     }
 }
 
-/// Whether a command line asks for nothing, and ends with this status and this in its text. A wrong one is told behind the program's name.
-pub(crate) fn is_ended(
+/// Returns whether the command line `given` ends `program` with `status` and a text that contains
+/// `text`.
+///
+/// The text of status 2 must also start with the program's name.
+fn is_ended(
     alloc: Global,
     program: Program,
     given: &str,
@@ -43,15 +47,15 @@ pub(crate) fn is_ended(
 ) -> Result<bool, AllocError> {
     Ok(match &program.fault(alloc, given)? {
         Some(fault) => {
-            let told = fault.text();
-            let is_told = status != 2 || told.starts_with(program.prefix());
-            fault.status() == status && is_told && told.contains(text)
+            let reported = fault.text();
+            let is_told = status != 2 || reported.starts_with(program.prefix());
+            fault.status() == status && is_told && reported.contains(text)
         }
         None => false,
     })
 }
 
-/// Whether the command line of each of these programs is ended so.
+/// Returns whether the command line `given` ends each of `programs` with this status and text.
 fn are_ended(
     alloc: Global,
     programs: &[Program],
@@ -74,10 +78,11 @@ const BOTH: &[Program] = &[Dictc, Jseg];
 
 const HELP: (u8, &str) = (0, "Usage: dictc");
 
-/// Command lines that ask for help, for the version or for what faults mean, and those with a word that is not known.
+/// Command lines that print help, the version or explanations of errors, and those with an unknown
+/// word.
 #[rattlefmt::skip]
-static COMMAND_LINES_THAT_END_AT_ONCE: [(&[Program], &str, &str, (u8, &str)); 32] = [
-    // (programs, what, words, (status, what is in the text))
+static COMMAND_LINES_THAT_END_AT_ONCE: [(&[Program], &str, &str, (u8, &str)); 34] = [
+    // (programs, what, arguments, (status, a part of the text))
     (DICTC, "help", "--help", HELP),
     (DICTC, "help for a system", "system --help", HELP),
     (DICTC, "help for a user", "user --help", HELP),
@@ -88,16 +93,19 @@ static COMMAND_LINES_THAT_END_AT_ONCE: [(&[Program], &str, &str, (u8, &str)); 32
     (BOTH, "memory, with =", "--explain=Memory", (0, "Memory\nMeaning: ")),
     (BOTH, "a code in lower case", "--explain l4", (0, "L4 BadSection\nMeaning: ")),
     (BOTH, "a code of the library", "--explain k7", (0, "K7 ShortBuffer\nMeaning: ")),
+    (BOTH, "a code of two digits", "--explain k10", (0, "K10 NoField\nMeaning: ")),
+    (BOTH, "the first of its digits", "--explain K1", (0, "K1 LineFeed\nMeaning: ")),
     (BOTH, "a name in lower case", "--explain nosuchcategory", (0, "C4 NoSuchCategory\nMeaning: ")),
     (BOTH, "another name", "--explain notutf8", (0, "S1 NotUtf8\nMeaning: ")),
     (BOTH, "a name of two codes", "--explain NotUtf8", (0, "\n\nG3 NotUtf8\nMeaning: ")),
     (BOTH, "all codes", "--explain", (0, "\nL4 BadSection\n")),
     (BOTH, "all codes, those of texts", "--explain", (0, "\nG3 NotUtf8\nG4 TooLong\n")),
-    (DICTC, "a code of none", "--explain X9", (2, "dictc: no fault has the code or name 'X9'\n")),
-    (JSEG, "a code of none", "--explain X9", (2, "jseg: no fault has the code or name 'X9'\n")),
+    (DICTC, "a code of none", "--explain X9", (2, "dictc: no error has the code or name 'X9'\n")),
+    (JSEG, "a code of none", "--explain X9", (2, "jseg: no error has the code or name 'X9'\n")),
     (DICTC, "a name that is near", "systen", (2, "'system'")),
     (DICTC, "an option that is near", "system --matrx m", (2, "'--matrix'")),
-    (DICTC, "a file like an option", "user --dic s --out o -x.csv", (2, "write './-x.csv'\n\nUsage: ")),
+    (DICTC, "a file like an option", "user --dic s --out o -x.csv",
+        (2, "write './-x.csv'\n\nUsage: ")),
     (DICTC, "the same as a value", "user --dic s a --out -o", (2, "write './-o'\n\n")),
     (DICTC, "controls", "user\u{1b} a\nb", (2, "dictc: unrecognized subcommand 'user\\u{1b}'")),
     (DICTC, "a line feed", "user --a\nb", (2, "dictc: unexpected argument '--a\\nb' found\n")),
@@ -106,8 +114,10 @@ static COMMAND_LINES_THAT_END_AT_ONCE: [(&[Program], &str, &str, (u8, &str)); 32
     (JSEG, "controls", "--x\u{1b}[2J", (2, "jseg: unexpected argument '--x\\u{1b}[2J' found\n")),
     (JSEG, "a line feed", "--a\nb", (2, "jseg: unexpected argument '--a\\nb' found\n")),
     (JSEG, "one in a value", "--sample -M 7\n", (2, "jseg: invalid value '7\\n' for '-M <N>': ")),
-    (JSEG, "a tab in a code", "--explain L4\t", (2, "jseg: no fault has the code or name 'L4\\t'\n")),
-    (JSEG, "a file like an option", "-d -x.img", (2, "\n\n  tip: for the file '-x.img' write './-x.img'\n\n")),
+    (JSEG, "a tab in a code", "--explain L4\t",
+        (2, "jseg: no error has the code or name 'L4\\t'\n")),
+    (JSEG, "a file like an option", "-d -x.img",
+        (2, "\n\n  tip: for the file '-x.img' write './-x.img'\n\n")),
     (JSEG, "one beside an image", "--smple -d s.img", (2, "'--sample'")),
     (JSEG, "a short option", "-q", (2, "jseg: unexpected argument '-q' found\n\nUsage: jseg ")),
 ];
@@ -120,7 +130,7 @@ fn command_lines_that_end_at_once(rt: HostRuntime) -> Result<(), Fail> {
     Ok(())
 }
 
-/// A program, a name, and the words of a command line.
+/// A program, a label, and the arguments of a command line.
 type WrongRow<'a> = (Program, &'a str, &'a str);
 
 fn expect_wrong(rt: &(impl Abort + Alloc<A = Global>), rows: &[WrongRow<'_>]) -> Result<(), Fail> {
@@ -133,7 +143,7 @@ fn expect_wrong(rt: &(impl Abort + Alloc<A = Global>), rows: &[WrongRow<'_>]) ->
 
 #[rattlefmt::skip]
 static WRONG_COMMAND_LINES: [WrongRow<'static>; 65] = [
-    // (program, what, words)
+    // (program, what, arguments)
     (Dictc, "nothing asked for", ""),
     (Dictc, "another subcommand", "delete"),
     (Dictc, "options alone", "--out o a"),

@@ -1,21 +1,22 @@
 //! Command lines of `jseg`.
 
-mod mecab_habits;
-
 use super::is_text;
+use crate::tests::texts::{subjects, texts};
 use Asked::{Directory, Images, Sample, Trusted};
 use command_lines::OptionsFault;
-use command_lines::jseg::{Form, Input, LatticeChoice, Options, Task, ViewChoice, task};
+use command_lines::jseg::{
+    Command, Form, Input, LatticeChoice, Options, ViewChoice, parse_command,
+};
 use std::alloc::{AllocError, Global};
 use std::string::String;
 use std::test::Fail;
-use test_words::words;
+use test_support::text::words;
 
-/// What a command line asks for: images, a directory or the sample. Users' images stand in one
-/// text, with a blank between.
+/// The expected input: images, a directory or the sample. User images are one text, separated by
+/// blanks.
 enum Asked {
     Images(&'static str, &'static str),
-    /// The same, without the tests of their digests.
+    /// Images whose checksums are not checked.
     Trusted(&'static str, &'static str),
     Directory(&'static str),
     Sample,
@@ -35,15 +36,15 @@ impl Asked {
     }
 }
 
-/// The choices of a command line that has a text cut.
+/// Parses `words`, and returns the options of a command line that segments text.
 fn options(alloc: Global, words: Vec<String>) -> Result<Option<Options>, OptionsFault> {
-    Ok(match task(alloc, words)? {
-        Task::Cut(options) => Some(options),
-        Task::ListImages { .. } => None,
+    Ok(match parse_command(alloc, words, &texts(&subjects()))? {
+        Command::Segment(options) => Some(options),
+        Command::ListImages { .. } => None,
     })
 }
 
-/// Whether words choose this input and this grouping.
+/// Returns whether `words` select this input and this grouping.
 fn are_input_and_grouping(alloc: Global, words: Vec<String>, input: &Input, grouping: u16) -> bool {
     match options(alloc, words) {
         Ok(Some(options)) => options.input == *input && options.grouping == grouping,
@@ -53,7 +54,7 @@ fn are_input_and_grouping(alloc: Global, words: Vec<String>, input: &Input, grou
 
 #[rattlefmt::skip]
 static COMMAND_LINES: [(&str, &str, Asked, u16); 13] = [
-    // (what, words, what is asked for, grouping)
+    // (what, arguments, the expected input, grouping)
     ("the sample",                "--sample",            Sample,                     24),
     ("a directory",               "--sources a/b",       Directory("a/b"),           24),
     ("with =",                    "--sources=a",         Directory("a"),             24),
@@ -80,7 +81,7 @@ fn command_lines(rt: HostRuntime) -> Result<(), Fail> {
     Ok(())
 }
 
-/// The name of a form, and the formats of known and of unknown words, of the beginning and of the end.
+/// The name of an output, and the formats of known words, unknown words, BOS and EOS.
 type Chosen = (
     Option<&'static str>,
     Option<&'static str>,
@@ -89,7 +90,7 @@ type Chosen = (
     Option<&'static str>,
 );
 
-/// Whether these formats were chosen.
+/// Returns whether `options` have these formats.
 fn are_chosen(options: &Options, chosen: &Chosen) -> bool {
     let (output, node, unk, bos, eos) = chosen;
     is_text(&options.output, *output)
@@ -99,7 +100,7 @@ fn are_chosen(options: &Options, chosen: &Chosen) -> bool {
         && is_text(&options.eos, *eos)
 }
 
-/// The words of a text, and these behind them.
+/// Returns the words of `text`, then `further`.
 fn words_and(alloc: Global, text: &str, further: &[&str]) -> Result<Vec<String>, AllocError> {
     let mut words = words(alloc, text)?;
     for word in further {
@@ -108,7 +109,7 @@ fn words_and(alloc: Global, text: &str, further: &[&str]) -> Result<Vec<String>,
     Ok(words)
 }
 
-/// Whether words choose these formats.
+/// Returns whether `words` select these formats.
 fn are_formats(alloc: Global, words: Vec<String>, chosen: &Chosen) -> bool {
     match options(alloc, words) {
         Ok(Some(options)) => are_chosen(&options, chosen),
@@ -118,7 +119,7 @@ fn are_formats(alloc: Global, words: Vec<String>, chosen: &Chosen) -> bool {
 
 #[rattlefmt::skip]
 static FORMAT_OPTIONS: [(&str, &[&str], Chosen); 5] = [
-    // (what, words behind --sample, the name and the four formats)
+    // (what, arguments after --sample, the name of the output and the four formats)
     ("none", &[], (None, None, None, None, None)),
     ("all", &["-F", "a", "-U", "b", "-B", "c", "-E", "d"],
         (None, Some("a"), Some("b"), Some("c"), Some("d"))),
@@ -137,10 +138,10 @@ fn format_options(rt: HostRuntime) -> Result<(), Fail> {
     Ok(())
 }
 
-/// What a command line has printed of each line.
+/// What is printed for each line.
 enum Printed {
     Words,
-    /// Its lattice in a form, with what that leaves out.
+    /// The lattice in a form, without the nodes that `--within` leaves out.
     Lattice(Form, Option<i64>),
     Why,
 }
@@ -158,7 +159,7 @@ impl Printed {
     }
 }
 
-/// Whether words have this printed of each line.
+/// Returns whether `words` select this view.
 fn is_view(alloc: Global, words: Vec<String>, wanted: Option<ViewChoice>) -> bool {
     match options(alloc, words) {
         Ok(Some(options)) => options.view == wanted,
@@ -168,7 +169,7 @@ fn is_view(alloc: Global, words: Vec<String>, wanted: Option<ViewChoice>) -> boo
 
 #[rattlefmt::skip]
 static VIEWS: [(&str, Printed); 8] = [
-    // (words, what is printed of each line)
+    // (arguments, what is printed for each line)
     ("--sample",                                  Printed::Words),
     ("--sample --lattice tsv",                    Printed::Lattice(Form::Tsv, None)),
     ("--lattice=dot -d s",                        Printed::Lattice(Form::Dot, None)),
@@ -190,18 +191,18 @@ fn views(rt: HostRuntime) -> Result<(), Fail> {
 
 #[rattlefmt::skip]
 static LISTS: [(&str, bool); 3] = [
-    // (words, whether they ask for what is done)
+    // (arguments, whether log messages are on)
     ("--dictionaries", false),
     ("--dictionaries -v", true),
     ("-v --dictionaries", true),
 ];
 
-/// Whether words ask for the list of images, and for what is done or not.
+/// Returns whether `words` list the images, with log messages or without.
 fn is_list(alloc: Global, words: Vec<String>, verbose: bool) -> bool {
-    task(alloc, words).ok() == Some(Task::ListImages { verbose })
+    parse_command(alloc, words, &texts(&subjects())).ok() == Some(Command::ListImages { verbose })
 }
 
-/// The list of images is asked for alone, or with what says what is done.
+/// `--dictionaries` is given alone or with `-v`.
 #[test]
 fn lists(rt: HostRuntime) -> Result<(), Fail> {
     for (given, verbose) in &LISTS {
@@ -213,7 +214,11 @@ fn lists(rt: HostRuntime) -> Result<(), Fail> {
 
 #[test]
 fn help(rt: HostRuntime) -> Result<(), Fail> {
-    let Err(fault) = task(rt.alloc(), words(rt.alloc(), "--help")?) else {
+    let Err(fault) = parse_command(
+        rt.alloc(),
+        words(rt.alloc(), "--help")?,
+        &texts(&subjects()),
+    ) else {
         assert!(rt; false, "it is no choice");
         return Ok(());
     };

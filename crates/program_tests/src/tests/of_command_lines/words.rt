@@ -1,4 +1,4 @@
-//! Command lines whose words can't be had.
+//! Command lines whose arguments can't be read.
 
 use command_lines::OptionsFault;
 use std::io::{Error, ErrorKind};
@@ -6,7 +6,7 @@ use std::test::Fail;
 
 #[rattlefmt::skip]
 static WORDS_THAT_CANNOT_BE_HAD: [(&str, ErrorKind, Option<&str>); 2] = [
-    // (what, kind, text of a wrong command line)
+    // (what, kind of the error, text for an invalid command line)
     ("not UTF-8", ErrorKind::InvalidData, Some("jseg: an argument is not UTF-8\n")),
     ("no memory", ErrorKind::OutOfMemory, None),
 ];

@@ -1,4 +1,4 @@
-//! Images whose digest is taken while they are read.
+//! Checksums that are computed while an image is read.
 
 use dict_image::DigestTest::{self, Made, Skipped};
 use mj_model::ImageFault;
@@ -7,9 +7,9 @@ use segmenter::sample;
 use std::alloc::{AllocError, Global};
 use std::io::{self, Read};
 use std::test::Fail;
-use test_samples::image;
+use test_support::samples::image;
 
-/// A reader that gives bytes, at most so many at once.
+/// A reader that returns `bytes`, at most `most` of them in each read.
 #[derive(Drop)]
 struct AtOnce<'a> {
     bytes: &'a [u8],
@@ -26,7 +26,7 @@ impl Read for AtOnce<'_> {
     }
 }
 
-/// An image in which a byte is another one, counted from 1 at the end; 0 for none.
+/// Returns `image` with one changed byte, which is counted from 1 at the end. 0 changes none.
 fn changed(alloc: Global, image: &[u8], from_end: usize) -> Result<Vec<u8>, AllocError> {
     let mut bytes = Vec::new(alloc);
     bytes.extend_from_slice(image)?;
@@ -38,7 +38,8 @@ fn changed(alloc: Global, image: &[u8], from_end: usize) -> Result<Vec<u8>, Allo
     Ok(bytes)
 }
 
-/// A name, the byte that is another one, how many come at once, the test that is asked for, the one that is left, and the fault.
+/// A label, the changed byte, the most bytes of a read, the requested test of the checksum, the
+/// test that is left to `load`, and the error.
 type DigestRow = (
     &'static str,
     usize,
@@ -48,10 +49,10 @@ type DigestRow = (
     Option<ImageFault>,
 );
 
-/// The last byte is one of the digest, and the 33rd from the end one of a feature.
+/// The last byte belongs to the checksum, and the 33rd from the end to a feature.
 #[rattlefmt::skip]
 static READ_DIGESTS: [DigestRow; 10] = [
-    // (what, another byte, bytes at once, asked for, left, fault)
+    // (what, changed byte, most bytes of a read, requested test, test left, error)
     ("a right digest",                    0,  99_999, Made,    Skipped, None),
     ("a right digest, singly",            0,  1,      Made,    Skipped, None),
     ("behind the header",                 0,  104,    Made,    Skipped, None),
@@ -64,9 +65,12 @@ static READ_DIGESTS: [DigestRow; 10] = [
     ("another feature, not asked for",    33, 99_999, Skipped, Skipped, None),
 ];
 
-/// What is read of bytes of which at most so many come at once.
+/// Reads an image from `bytes`, at most `most` of them in each read.
 fn read_at_once(alloc: Global, bytes: &[u8], most: usize, digest: DigestTest) -> Option<ReadImage> {
-    let reading = ImageReading { digest, told: None };
+    let reading = ImageReading {
+        digest,
+        reported: None,
+    };
     read_image(alloc, &mut AtOnce { bytes, most }, None, 1 << 20, reading).ok()
 }
 

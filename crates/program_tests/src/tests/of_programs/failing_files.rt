@@ -1,4 +1,4 @@
-//! The files of the system, among which some calls fail.
+//! The host's files, with calls that fail on demand.
 
 use std::alloc::{Allocator, Global};
 use std::cell::Cell;
@@ -8,25 +8,25 @@ use std::os::unix::fs::PermissionsExt;
 use std::path::PathBuf;
 use std::rt::Files;
 
-/// The system's files, whose calls are handed on but for those that fail.
+/// A runtime that passes calls on to the host's files, except those that fail.
 #[derive(Drop)]
 pub(crate) struct FailingFiles<'a> {
     pub rt: &'a HostRuntime,
-    /// How many bytes a file takes in all, and how many at once.
+    /// `room` is how many bytes a file accepts in total, `at_once` how many in each write.
     pub room: usize,
     pub at_once: usize,
     /// Whether a signal interrupts the first write of each file.
     pub interrupts: bool,
-    /// Whether its bytes can be stored.
+    /// Whether `sync_all` succeeds.
     pub syncs: bool,
-    /// Whether it can get another name.
+    /// Whether renaming succeeds.
     pub renames: bool,
-    /// How many files were opened.
+    /// The number of files opened so far.
     pub opened: Cell<usize>,
 }
 
 impl<'a> FailingFiles<'a> {
-    /// The system's files, of which no call fails.
+    /// Returns the host's files, with no failing calls.
     pub(crate) fn none(rt: &'a HostRuntime) -> FailingFiles<'a> {
         FailingFiles {
             rt,
@@ -40,7 +40,7 @@ impl<'a> FailingFiles<'a> {
     }
 }
 
-/// A file of these.
+/// A file opened by `FailingFiles`.
 #[derive(Drop)]
 pub(crate) struct FailingFile {
     file: File,
@@ -50,7 +50,7 @@ pub(crate) struct FailingFile {
     syncs: bool,
 }
 
-fn refused() -> io::Error {
+fn rejected() -> io::Error {
     io::Error::from(ErrorKind::StorageFull)
 }
 
@@ -68,7 +68,7 @@ impl Write for FailingFile {
         }
         let taken = buf.len().min(self.at_once).min(self.room);
         if taken == 0 {
-            return Err(refused());
+            return Err(rejected());
         }
         self.room -= taken;
         self.file.write(&buf[..taken])
@@ -98,7 +98,7 @@ impl OpenFile for FailingFile {
         if self.syncs {
             self.file.sync_all()
         } else {
-            Err(refused())
+            Err(rejected())
         }
     }
 
@@ -106,11 +106,11 @@ impl OpenFile for FailingFile {
         self.file.sync_data()
     }
 
-    /// Refuses a mode that forbids what the file's own allowed until now.
+    /// Sets the mode, but fails if it removes a permission that the file has.
     fn set_permissions(&self, perm: Permissions) -> io::Result<()> {
         let until_now = self.file.metadata()?.permissions().mode();
         if until_now & !perm.mode() & 0o777 != 0 {
-            return Err(refused());
+            return Err(rejected());
         }
         self.file.set_permissions(perm)
     }
@@ -161,7 +161,7 @@ impl Files for FailingFiles<'_> {
         if self.renames {
             self.rt.rename(from, to)
         } else {
-            Err(refused())
+            Err(rejected())
         }
     }
 

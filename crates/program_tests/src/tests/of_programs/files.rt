@@ -5,29 +5,30 @@ use super::{names_in, write};
 use crate::tests::{expect_in_directory, in_directory, new_directory, no_files, write_in};
 use dict_image::DigestTest;
 use mj_model::ImageFault;
-use programs::{Fault, SourceFiles, WholeFile, dictionary_at, read_files, texts};
+use programs::{Fault, SourceFiles, WholeFile, load_dictionary, read_files, texts};
 use std::alloc::{AllocError, Global};
 use std::io::ErrorKind;
 use std::string::String;
 use std::test::Fail;
 use std::{fs, io};
 
-/// Whether a file at this path is what a call told.
+/// Returns whether `fault` names the file at `path`.
 fn is_file_fault(fault: Option<&Fault>, path: &str) -> bool {
     match fault {
-        Some(Fault::File(told)) => told.as_str() == path,
+        Some(Fault::File(reported)) => reported.as_str() == path,
         _ => false,
     }
 }
 
-/// Whether the file at a path can be neither read nor written.
+/// Returns whether the file at `path` can be neither read nor written.
 fn is_refused(rt: &HostRuntime, path: &str) -> bool {
     let read = WholeFile::read(rt, path).err();
     let written = write(rt, path, b"text").err();
     is_file_fault(read.as_ref(), path) && is_file_fault(written.as_ref(), path)
 }
 
-/// Whether the file whose path is a directory's and this name can be neither read nor written, and the directory is empty then.
+/// Returns whether the file at `dir` followed by `name` can be neither read nor written, and `dir`
+/// is left empty.
 fn is_refused_in(rt: &HostRuntime, dir: &str, name: &&'static str) -> Result<bool, Fail> {
     let path = format!(in rt.alloc(); "{dir}{name}")?;
     Ok(is_refused(rt, path.as_str()) && names_in(rt, dir)? == 0)
@@ -35,7 +36,7 @@ fn is_refused_in(rt: &HostRuntime, dir: &str, name: &&'static str) -> Result<boo
 
 #[rattlefmt::skip]
 static NAMES_THAT_FAIL: [(&str, &str); 3] = [
-    // (what, the name behind the directory's)
+    // (what, the name after the directory's path)
     ("in no folder", "/none/file"),
     ("the folder",   ""),
     ("no folder",    "/none/"),
@@ -55,7 +56,7 @@ fn refused_files(rt: HostRuntime) -> Result<(), Fail> {
     Ok(())
 }
 
-/// A file that was read, with one byte.
+/// Returns a file of one byte, as if it had been read from `path`.
 fn file(alloc: Global, path: &str, byte: u8) -> Result<WholeFile, AllocError> {
     let mut bytes = Vec::new(alloc);
     bytes.push(byte)?;
@@ -65,7 +66,7 @@ fn file(alloc: Global, path: &str, byte: u8) -> Result<WholeFile, AllocError> {
     })
 }
 
-/// Two lexicons.
+/// Returns two lexicons.
 fn two_lexicons(alloc: Global) -> Result<Vec<WholeFile>, AllocError> {
     let mut lexicons = Vec::new(alloc);
     lexicons.push(file(alloc, "a.csv", 4)?)?;
@@ -73,7 +74,7 @@ fn two_lexicons(alloc: Global) -> Result<Vec<WholeFile>, AllocError> {
     Ok(lexicons)
 }
 
-/// The files of a system dictionary with two lexicons.
+/// Returns the files of a system dictionary with two lexicons.
 fn source_files(alloc: Global) -> Result<SourceFiles, AllocError> {
     Ok(SourceFiles {
         matrix: String::from_str(alloc, "matrix.def")?,
@@ -83,7 +84,7 @@ fn source_files(alloc: Global) -> Result<SourceFiles, AllocError> {
     })
 }
 
-/// Whether the texts of two lexicons are their bytes.
+/// Returns whether the texts of `lexicons` are the bytes of the two lexicons.
 fn are_texts(alloc: Global, lexicons: &[WholeFile]) -> Result<bool, AllocError> {
     let texts = texts(alloc, lexicons)?;
     let wanted: [&[u8]; 2] = [&[4], &[5]];
@@ -114,7 +115,7 @@ fn paths_of_sources(rt: HostRuntime) -> Result<(), Fail> {
 
 static NAMES_IN_ORDER: [&str; 3] = ["b", "a", "c"];
 
-/// The paths of files of these names, each of which has its name in it.
+/// Writes a file for each name, with the name as its text, and returns their paths.
 fn written_paths(rt: &HostRuntime, dir: &str) -> io::Result<Vec<String>> {
     let mut paths = Vec::new(rt.alloc());
     for name in &NAMES_IN_ORDER {
@@ -124,7 +125,7 @@ fn written_paths(rt: &HostRuntime, dir: &str) -> io::Result<Vec<String>> {
     Ok(paths)
 }
 
-/// Whether these are the files of three paths, by the name in each.
+/// Returns whether `files` are the three files at `paths`, by the name in each.
 fn are_files(files: &[WholeFile], paths: &[String]) -> bool {
     let mut all = files.len() == 3 && paths.len() == 3;
     for (file, path) in files.iter().zip(paths.iter()) {
@@ -133,14 +134,14 @@ fn are_files(files: &[WholeFile], paths: &[String]) -> bool {
     all
 }
 
-/// Whether files are read in the order of their paths, and each is opened once.
+/// Returns whether files are read in the order of `paths`, each opened once.
 fn are_read(rt: &HostRuntime, paths: &[String]) -> Result<bool, Fault> {
     let runtime = FailingFiles::none(rt);
     let files = read_files(&runtime, paths)?;
     Ok(runtime.opened.get() == 3 && are_files(&files, paths))
 }
 
-/// Whether the first of some files can't be read.
+/// Returns whether reading `paths` reports the first file as unreadable.
 fn is_first_gone(rt: &HostRuntime, paths: &[String]) -> bool {
     match paths.first() {
         Some(path) => is_file_fault(read_files(rt, paths).err().as_ref(), path.as_str()),
@@ -159,18 +160,19 @@ fn files_in_their_order(rt: HostRuntime) -> Result<(), Fail> {
     Ok(())
 }
 
-/// What is told of an image at a path.
+/// Returns the error of loading the image at `path`.
 fn fault_at(rt: &HostRuntime, path: &str) -> Option<Fault> {
-    dictionary_at(rt, path, DigestTest::Made).err()
+    load_dictionary(rt, path, DigestTest::Made).err()
 }
 
-/// Makes a file that is no image.
+/// Writes a file that is not an image.
 fn make_short(rt: &HostRuntime, dir: &str) -> Result<(), Fail> {
     write_in(rt, dir, "short.img", b"no image")?;
     Ok(())
 }
 
-/// Whether an image of a directory is told as one, with this fault, or else as a file.
+/// Returns whether loading the image `name` reports `fault`, or an unreadable file if there is
+/// none.
 fn is_image_fault(
     rt: &HostRuntime,
     dir: &str,
@@ -178,15 +180,15 @@ fn is_image_fault(
 ) -> Result<bool, Fail> {
     let path = in_directory(rt, dir, name)?;
     Ok(match (&fault_at(rt, path.as_str()), fault) {
-        (Some(Fault::File(told)), None) => *told == path,
-        (Some(Fault::Image(told, found)), Some(fault)) => *told == path && found == fault,
+        (Some(Fault::File(reported)), None) => *reported == path,
+        (Some(Fault::Image(reported, found)), Some(fault)) => *reported == path && found == fault,
         _ => false,
     })
 }
 
 #[rattlefmt::skip]
 static IMAGES_THAT_CANNOT_BE_READ: [(&str, (&str, Option<ImageFault>)); 2] = [
-    // (what, (name, the fault of an image))
+    // (what, (name, the error of the image))
     ("missing", ("none.img",  None)),
     ("short",   ("short.img", Some(ImageFault::Truncated))),
 ];

@@ -1,4 +1,4 @@
-//! Images whose first bytes are judged before the others are read.
+//! Images whose header is checked before the remainder is read.
 
 use Answer::{Endless, Refused, Whole};
 use First::{Image, Other};
@@ -10,12 +10,14 @@ use std::io::{self, Read};
 use std::process::Abort;
 use std::test::Fail;
 
-/// The bytes of the magic and the numbers of a header, and those of its lengths.
+/// `NUMBERS` is the length in bytes of the magic and the header fields, `LENGTHS` that of the section
+/// lengths.
 const NUMBERS: usize = 40;
 
 const LENGTHS: usize = 64;
 
-/// A reader that gives bytes, so many at once, and then zeros for ever or its end.
+/// A reader that returns the bytes of `text`, `at_once` in each read. Then it ends, or returns
+/// zeros for ever.
 #[derive(Drop)]
 struct Dripping<'a> {
     text: &'a [u8],
@@ -38,18 +40,20 @@ impl Read for Dripping<'_> {
     }
 }
 
-/// The header of a layout, whose first section has so many bytes and its last one as many as that lacks, and so many zeros.
-fn image(alloc: Global, layout: u8, section: u64, behind: usize) -> Result<Vec<u8>, AllocError> {
+/// Returns a header of layout `layout`, and `following` zeros after it.
+///
+/// Section 1 has a length of `section` bytes. The other lengths are 0.
+fn image(alloc: Global, layout: u8, section: u64, following: usize) -> Result<Vec<u8>, AllocError> {
     let mut bytes = Vec::new(alloc);
     bytes.extend_from_slice(b"MJDICT\r\n")?;
     bytes.push(layout)?;
     bytes.resize(NUMBERS, 0)?;
     bytes.extend_from_slice(&section.to_le_bytes())?;
-    bytes.resize((NUMBERS + LENGTHS).saturating_add(behind), 0)?;
+    bytes.resize((NUMBERS + LENGTHS).saturating_add(following), 0)?;
     Ok(bytes)
 }
 
-/// What is answered of an image.
+/// The result of reading an image.
 #[derive(Clone, Copy, PartialEq)]
 enum Answer {
     Whole,
@@ -57,7 +61,9 @@ enum Answer {
     Endless,
 }
 
-/// What is answered of a reader that gives these bytes, where the digest is tested and nobody is told how far the reading is.
+/// Reads an image from `reader`, and returns `Whole` if it has the bytes `bytes`, or the error.
+///
+/// The checksum is checked, and no progress is printed.
 fn answered<R: Read>(
     alloc: Global,
     reader: &mut R,
@@ -67,7 +73,7 @@ fn answered<R: Read>(
 ) -> Option<Answer> {
     let reading = ImageReading {
         digest: DigestTest::Made,
-        told: None,
+        reported: None,
     };
     match read_image(alloc, reader, known, reads, reading) {
         Ok(image) => (image.bytes.as_slice() == bytes).then_some(Answer::Whole),
@@ -77,14 +83,15 @@ fn answered<R: Read>(
     }
 }
 
-/// A name, the layout, the bytes of section 1 and those behind the header, the known length, reads, and the answer.
+/// A label, the layout, the bytes of section 1 and those after the header, the known length, the
+/// most reads, and the result.
 type HeadRow = (&'static str, u8, u64, usize, Option<u64>, u64, Answer);
 
 fn expect_judged(
     rt: &(impl Abort + Alloc<A = Global>),
-    (what, layout, section, behind, known, reads, wanted): &HeadRow,
+    (what, layout, section, following, known, reads, wanted): &HeadRow,
 ) -> Result<(), AllocError> {
-    let bytes = image(rt.alloc(), *layout, *section, *behind)?;
+    let bytes = image(rt.alloc(), *layout, *section, *following)?;
     let mut reader = bytes.as_slice();
     let answer = answered(rt.alloc(), &mut reader, *known, *reads, &bytes);
     assert!(rt; answer == Some(*wanted), "{what}");
@@ -95,7 +102,7 @@ const MUCH: u64 = 1 << 40;
 
 #[rattlefmt::skip]
 static JUDGED_HEADS: [HeadRow; 18] = [
-    // (what, layout, bytes of section 1, bytes behind the header, known length, reads, answer)
+    // (what, layout, bytes of section 1, bytes after the header, known length, most reads, result)
     ("as many as told",          1, 10, 10, Some(114), 3, Whole),
     ("the same of a pipe",       1, 10, 10, None,      3, Whole),
     ("with a digest",            3, 10, 42, Some(146), 3, Whole),
@@ -124,16 +131,16 @@ fn judged_heads(rt: HostRuntime) -> Result<(), Fail> {
     Ok(())
 }
 
-/// The first bytes of an image or of another file, so many, or all where they are fewer.
+/// The first bytes of an image or of another file: this many, or all if there are fewer.
 enum First {
     Image(usize),
     Other(usize),
 }
 
-/// A name, the bytes, how many come at once, whether they end, the answer, and the most reads.
+/// A label, the bytes, how many a read returns, whether they end, the result, and the most reads.
 type DrippingRow = (&'static str, First, usize, bool, Answer, usize);
 
-/// Bytes come as they like, and what they are is told where a header of them is there.
+/// Checks that a header is checked as soon as it is complete, in reads of any size.
 fn expect_dripping(
     rt: &(impl Abort + Alloc<A = Global>),
     files: (&[u8], &[u8]),
@@ -157,7 +164,7 @@ fn expect_dripping(
 
 #[rattlefmt::skip]
 static DRIPPING_HEADS: [DrippingRow; 11] = [
-    // (what, bytes, bytes at once, whether they end, answer, most reads)
+    // (what, bytes, bytes of a read, whether they end, result, most reads)
     ("single bytes",         Image(usize::MAX), 1,      true,  Whole,                  70_105),
     ("a header at once",     Image(usize::MAX), 104,    true,  Whole,                  676),
     ("all at once",          Image(usize::MAX), 99_999, true,  Whole,                  3),

@@ -6,7 +6,7 @@ use std::io::{self, ErrorKind, Read};
 use std::process::Abort;
 use std::test::Fail;
 
-/// A reader that fails behind so many reads of one byte.
+/// A reader that fails after `reads` reads of one byte.
 #[derive(Drop)]
 struct Failing {
     reads: usize,
@@ -22,7 +22,8 @@ impl Read for Failing {
     }
 }
 
-/// Reads so many bytes, which end within so many reads or don't.
+/// Checks that a text of `length` bytes is read to its end within `reads` reads if `ends`, and is
+/// `Endless` otherwise.
 fn expect_read(
     rt: &(impl Abort + Alloc<A = Global>),
     length: usize,
@@ -41,7 +42,7 @@ fn expect_read(
 
 #[rattlefmt::skip]
 static READERS_OF_SOME_LENGTH: [(usize, u64, bool); 10] = [
-    // (bytes, reads, whether it ends within them)
+    // (bytes, reads, whether the text ends within them)
     (0,       1, true),
     (0,       0, false),
     (1,       2, true),

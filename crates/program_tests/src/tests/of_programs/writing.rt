@@ -1,11 +1,11 @@
-//! Files that are written whole or not at all.
+//! Files that are written completely or not at all.
 
 use super::failing_files::FailingFiles;
 use super::{names_in, write};
 use crate::tests::{
     create_in, expect_in_directory, in_directory, new_directory, no_files, write_in,
 };
-use programs::{Fault, write_as};
+use programs::{Fault, write_file_as};
 use std::alloc::{AllocError, Global};
 use std::fs::{self, Permissions};
 use std::io;
@@ -13,29 +13,29 @@ use std::os::unix::fs::{PermissionsExt, symlink};
 use std::string::String;
 use std::test::Fail;
 
-/// The path of a directory's file.
+/// Returns the path of the file in `dir`.
 fn file_in(rt: &HostRuntime, dir: &str) -> io::Result<String> {
     in_directory(rt, dir, "file")
 }
 
-/// Whether a file is written, and then has these bytes.
+/// Returns whether the file at `path` is written, and then has `bytes`.
 fn is_kept(rt: &HostRuntime, path: &str, bytes: &[u8]) -> io::Result<bool> {
     Ok(write(rt, path, bytes).is_ok() && has_bytes(rt, path, bytes)?)
 }
 
-/// Whether these are the bytes of the file at a path.
+/// Returns whether the file at `path` has `bytes`.
 fn has_bytes(rt: &HostRuntime, path: &str, bytes: &[u8]) -> io::Result<bool> {
     Ok(fs::read(rt, path)?.as_slice() == bytes)
 }
 
-/// More bytes than are written at once.
+/// Returns more bytes than are written at once.
 fn many_bytes(alloc: Global) -> Result<Vec<u8>, AllocError> {
     (0..300_000_u32)
         .map(|number| (number % 251) as u8)
         .collect(alloc)
 }
 
-/// What is written: these bytes, or else many.
+/// Returns the bytes `few`, or many bytes if there are none.
 fn bytes_of(alloc: Global, few: Option<&[u8]>) -> Result<Vec<u8>, AllocError> {
     match few {
         Some(bytes) => Vec::from_slice(alloc, bytes),
@@ -43,7 +43,7 @@ fn bytes_of(alloc: Global, few: Option<&[u8]>) -> Result<Vec<u8>, AllocError> {
     }
 }
 
-/// Writes a directory's file. Whether it then has these bytes, and no other name is there.
+/// Writes the file in `dir`. Returns whether it then has these bytes and is the only name.
 fn is_written(rt: &HostRuntime, dir: &str, few: &Option<&'static [u8]>) -> Result<bool, Fail> {
     let bytes = bytes_of(rt.alloc(), *few)?;
     let path = file_in(rt, dir)?;
@@ -65,10 +65,12 @@ fn written_bytes(rt: HostRuntime) -> Result<(), Fail> {
     expect_in_directory(&rt, "written", no_files, &WRITTEN_BYTES, is_written)
 }
 
-/// The room of a file, the bytes that it takes at once, whether it is interrupted, synced and renamed, and so written.
+/// The room of a file in bytes, the most bytes of a write, whether it is interrupted, synced and
+/// renamed, and whether it is written.
 type WriteRow = (usize, usize, bool, bool, bool, bool);
 
-/// Writes a file that stands there already, where calls fail so. Whether it then has all of the new bytes, or else the old ones.
+/// Overwrites a file while calls fail. Returns whether it then has all of the new bytes if it is
+/// written, or else the old ones.
 fn is_whole_or_old(
     rt: &HostRuntime,
     dir: &str,
@@ -84,7 +86,7 @@ fn is_whole_or_old(
         renames: *renames,
         ..FailingFiles::none(rt)
     };
-    let written = write_as(&files, 7, path.as_str(), b"new bytes").is_ok();
+    let written = write_file_as(&files, 7, path.as_str(), b"new bytes").is_ok();
     let wanted = if *is_written { "new bytes" } else { "old" };
     let has_wanted = has_bytes(rt, path.as_str(), wanted.as_bytes())?;
     Ok(written == *is_written && has_wanted && names_in(rt, dir)? == 1)
@@ -92,7 +94,7 @@ fn is_whole_or_old(
 
 #[rattlefmt::skip]
 static WHOLE_OR_NOT_AT_ALL: [(&str, WriteRow); 9] = [
-    // (what, (room, bytes at once, whether it is interrupted, synced, renamed, and so written))
+    // (what, (room, bytes of a write, whether it is interrupted, synced, renamed, written))
     ("all at once",    (9, 9, false, true,  true,  true)),
     ("short writes",   (9, 2, false, true,  true,  true)),
     ("single bytes",   (9, 1, false, true,  true,  true)),
@@ -115,26 +117,26 @@ fn whole_or_not_at_all(rt: HostRuntime) -> Result<(), Fail> {
     )
 }
 
-/// The name of a new file of number 0, which process 7 would write, and that of number 1.
+/// The names of the temporary files of numbers 0 and 1 that process 7 would write.
 const NEW_0: &str = ".kumquatsieve.7.0.new";
 
 const NEW_1: &str = ".kumquatsieve.7.1.new";
 
-/// Makes a file and a directory of the first two names.
+/// Creates a file and a folder with the first two names of temporary files.
 fn take_names(rt: &HostRuntime, dir: &str) -> Result<(), Fail> {
     write_in(rt, dir, NEW_0, b"of another run")?;
     create_in(rt, dir, NEW_1)?;
     Ok(())
 }
 
-/// Whether a file of these bytes is written beside these, which stay.
+/// Returns whether the file is written although those names are taken, and they are unchanged.
 fn is_written_beside(rt: &HostRuntime, dir: &str, bytes: &&'static [u8]) -> Result<bool, Fail> {
     let path = file_in(rt, dir)?;
-    let written = write_as(rt, 7, path.as_str(), bytes).is_ok();
+    let written = write_file_as(rt, 7, path.as_str(), bytes).is_ok();
     Ok(written && has_bytes(rt, path.as_str(), bytes)? && are_kept(rt, dir)?)
 }
 
-/// Whether the file of the first name has its bytes, and there are three names.
+/// Returns whether the first of those files has its bytes, and `dir` has three names.
 fn are_kept(rt: &HostRuntime, dir: &str) -> io::Result<bool> {
     let first = in_directory(rt, dir, NEW_0)?;
     Ok(has_bytes(rt, first.as_str(), b"of another run")? && names_in(rt, dir)? == 3)
@@ -147,7 +149,7 @@ fn names_that_are_taken(rt: HostRuntime) -> Result<(), Fail> {
     expect_in_directory(&rt, "taken", take_names, &BESIDE, is_written_beside)
 }
 
-/// Whether files of a name of so many bytes are written, one in the place of the other.
+/// Returns whether a file with a name of `length` bytes is written twice.
 fn are_written(rt: &HostRuntime, dir: &str, length: usize) -> io::Result<bool> {
     let mut path = in_directory(rt, dir, "")?;
     for _ in 0..length {
@@ -158,7 +160,7 @@ fn are_written(rt: &HostRuntime, dir: &str, length: usize) -> io::Result<bool> {
 
 static LENGTHS: [usize; 4] = [240, 241, 254, 255];
 
-/// A name has up to 255 bytes: that of the new file is a short one.
+/// A name may have 255 bytes, because that of the temporary file doesn't contain it.
 #[test]
 fn long_names(rt: HostRuntime) -> Result<(), Fail> {
     let dir = new_directory(&rt, "long")?;
@@ -170,18 +172,18 @@ fn long_names(rt: HostRuntime) -> Result<(), Fail> {
     Ok(())
 }
 
-/// Makes the file.
+/// Writes the file.
 fn make_file(rt: &HostRuntime, dir: &str) -> Result<(), Fail> {
     write_in(rt, dir, "file", b"old")?;
     Ok(())
 }
 
-/// Whether the file of a mode is written, and keeps it.
+/// Returns whether a file with the mode `mode` is written and keeps it.
 fn keeps_mode(rt: &HostRuntime, dir: &str, mode: &u32) -> Result<bool, Fail> {
     let path = file_in(rt, dir)?;
     fs::set_permissions(rt, path.as_str(), Permissions::from_mode(*mode))?;
     let files = FailingFiles::none(rt);
-    let is_written = write_as(&files, 7, path.as_str(), b"new").is_ok();
+    let is_written = write_file_as(&files, 7, path.as_str(), b"new").is_ok();
     let kept = fs::metadata(rt, path.as_str())?.permissions().mode();
     Ok(is_written && kept & 0o777 == *mode)
 }
@@ -193,7 +195,7 @@ fn modes_are_kept(rt: HostRuntime) -> Result<(), Fail> {
     expect_in_directory(&rt, "modes", make_file, &MODES, keeps_mode)
 }
 
-/// Whether what is written to a link is in the file that it leads to, and it stays a link.
+/// Returns whether writing through `link` changes `file`, and `link` stays a link.
 fn is_link_kept(rt: &HostRuntime, link: &str, file: &str) -> io::Result<bool> {
     fs::write(rt, file, "old")?;
     symlink(rt, "file", link)?;
@@ -201,7 +203,7 @@ fn is_link_kept(rt: &HostRuntime, link: &str, file: &str) -> io::Result<bool> {
     Ok(written && has_bytes(rt, file, b"new")? && fs::symlink_metadata(rt, link)?.is_symlink())
 }
 
-/// The same of a link in a directory, in which there are then two names.
+/// Returns whether writing through a link in `dir` keeps the link, and leaves two names.
 fn is_link_kept_in(rt: &HostRuntime, dir: &str) -> io::Result<bool> {
     let file = file_in(rt, dir)?;
     let link = in_directory(rt, dir, "link")?;

@@ -1,7 +1,7 @@
 use Rattle.std.proofs.lemmas.List.Sorted.{All-permutation}
 use Rattle.std.proofs.lemmas.Result.{IfOk-weaker}
 use Rattle.std.specs.Prelude.{IsPermutation, string_bytes}
-use Rattle.programs.specs.Homes.{AreBare, IsBare}
+use Rattle.programs.specs.ImageDirs.{AreBare, IsBare}
 use Rattle.programs.proofs.folder_names.image_names.Goals as goal
 
 pub returns-in-Ok-clause-named : goal.returns-in-Ok-clause-named

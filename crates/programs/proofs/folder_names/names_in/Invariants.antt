@@ -1,4 +1,4 @@
-use Rattle.programs.specs.Homes.{AreBare}
+use Rattle.programs.specs.ImageDirs.{AreBare}
 use Rattle.programs.proofs.folder_names.names_in.Given as goal
 
 abbrev pub invariant-loop-entry : goal.invariant-loop-entry

@@ -1,26 +1,32 @@
-use Rattle.std.proofs.Common.{rules, arith, ◌≡◌, ◌+◌, [], ◌∷◌, ◌++◌, length, take, subst, sym, inr}
-use Rattle.std.proofs.lemmas.Grind.{common_steps}
-use Rattle.std.proofs.lemmas.List.Elements.{All-push}
+use Rattle.std.proofs.Common.{rules, ◌≡◌, ℕ, ◌+◌, ◌<◌, List, [], ◌∷◌, ◌++◌, length, take, get_or, Ok, String, string_bytes, ap, sym, inr, ◌∙◌}
+use Rattle.std.proofs.lemmas.Grind.{take_at_read}
 use Rattle.std.proofs.lemmas.Result.{err_from_is_err_and}
-use Rattle.std.specs.Prelude.{All}
-use Rattle.image_bytes.specs.ImageFaults.{IsAccepted}
-use Rattle.programs.specs.Faults.{NamesFileOrImage}
+use Rattle.std.proofs.lemmas.Slice.Zip.{all_zipped_more}
+use Rattle.std.specs.Borrow.{Bor}
+use Rattle.std.specs.Prelude.{Result}
+use Rattle.std.specs.declared.alloc.Global.{Global}
+use Rattle.image_format.specs.declared.digest_test.DigestTest.{DigestTest}
+use Rattle.programs.specs.LoadedImages.{AreLoaded, IsLoadResult}
+use Rattle.programs.specs.declared.fault.Fault.{Fault}
+use Rattle.programs.proofs.images.dictionaries_at.Given as given
 use Rattle.programs.proofs.images.dictionaries_at.Goals as goal
 
+more_loaded : {D : Type 0} (loads : Bor (List ℕ) → DigestTest → Result D Fault → Type 0) (digest : DigestTest) (paths : List (String Global)) (i : ℕ) (path : String Global) (dicts : List D) (dict : D)
+    → i < length paths → path ≡ get_or paths i path → AreLoaded loads digest (take i paths) dicts → IsLoadResult loads digest (string_bytes path) (Ok dict)
+    → AreLoaded loads digest (take (i + 1) paths) (dicts ++ dict ∷ [])
+more_loaded loads digest paths i path dicts dict here is loaded this =
+    let more : take (i + 1) paths ≡ take i paths ++ path ∷ [] =
+    (take_at_read paths i path here).1 ∙ ap (λ (x : String Global). take i paths ++ x ∷ []) (sym is) in
+    rw more (all_zipped_more _ (take i paths) dicts path dict loaded this)
+
 pub loop-path-preserved : goal.loop-path-preserved
-loop-path-preserved c =
-    let was = c.loop-path.invariant.count in
+loop-path-preserved g c =
     let items : c.push.new.self.items ≡ c.loop-path.dicts.items ++ c.in_ok-dict.dict ∷ [] = search rules in
-    let count : length c.push.new.self.items ≡ length (take (c.loop-path.path-index + 1) c.args.paths.now) = grind (arith, common_steps) in
-    record {
-      count = count;
-      accepted = subst (All (IsAccepted c.args.digest)) (sym items)
-          (All-push (IsAccepted c.args.digest) c.loop-path.dicts.items c.in_ok-dict.dict c.loop-path.invariant.accepted c.in_ok-dict.ensures.accepted);
-    }
+    rw items (more_loaded (given.L-post g c.args.load) c.args.digest c.args.paths.now c.loop-path.path-index c.path-item.result c.loop-path.dicts.items c.in_ok-dict.dict c.loop-path-test.true c.path-item.is c.loop-path.invariant
+    (c.as_str.result, c.as_str.ensures.value, c.in_ok-dict.ensures))
 
 pub returns-in_err-dict-clause-fault : goal.returns-in_err-dict-clause-fault
-returns-in_err-dict-clause-fault c =
+returns-in_err-dict-clause-fault g c =
     let p = err_from_is_err_and c.from_residual.result c.from_residual.ensures.1 in
     let path = c.path-item.result in
-    let named = subst (λ bytes. NamesFileOrImage bytes c.in_err-dict.field-0.0) c.as_str.ensures.value c.in_err-dict.ensures.fault in
-    rw (p.1, p.2) (inr (path, (c.loop-path.path-index, c.loop-path-test.true, sym c.path-item.is), named))
+    rw (p.1, p.2) (inr (path, (c.loop-path.path-index, c.loop-path-test.true, sym c.path-item.is), (c.as_str.result, c.as_str.ensures.value, c.in_err-dict.ensures)))

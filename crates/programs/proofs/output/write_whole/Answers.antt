@@ -1,4 +1,4 @@
-use Rattle.programs.proofs.WrittenBytes.{appends_more, within_more}
+use Rattle.line_stream.proofs.WritingLemmas.{appends_more, within_more}
 use Rattle.programs.proofs.output.write_whole.Goals as goal
 
 pub loop-sent-preserved : goal.loop-sent-preserved

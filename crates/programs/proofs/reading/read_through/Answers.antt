@@ -16,5 +16,5 @@ loop-read-preserved g c =
       done ++ part,
       Consumes-trans (g.R.Read.remaining c.args.reader.now) (g.R.Read.remaining c.loop-read.reader) (g.R.Read.remaining c.read.new.self) done part c.loop-read.invariant.1 gave,
       omega (arith, reads, some, within, length-append {A = ℕ}, length-take {A = ℕ}),
-      λ before given. subst (λ (bytes : List ℕ). g.P.Pieces.given c.in_ok-taken.taken bytes) (append_assoc before done part) (c.in_ok-taken.ensures (before ++ done) (c.loop-read.invariant.3 before given)),
+      λ before given. subst (λ (bytes : List ℕ). g.P.ByteSink.received c.in_ok-taken.taken bytes) (append_assoc before done part) (c.in_ok-taken.ensures (before ++ done) (c.loop-read.invariant.3 before given)),
     )

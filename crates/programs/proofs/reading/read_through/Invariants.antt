@@ -5,4 +5,4 @@ use Rattle.programs.proofs.reading.read_through.Given as goal
 abbrev pub invariant-loop-read : goal.invariant-loop-read
 invariant-loop-read g l =
     (done : List ℕ) × Consumes (g.R.Read.remaining l.initial.reader) (g.R.Read.remaining l.reader) done × (l._read ≤ length done)
-    × ((before : List ℕ) → g.P.Pieces.given l.fn.pieces before → g.P.Pieces.given l.taken (before ++ done))
+    × ((before : List ℕ) → g.P.ByteSink.received l.fn.pieces before → g.P.ByteSink.received l.taken (before ++ done))

@@ -1,6 +1,6 @@
-//! Best paths over sources, with their totals.
+//! Best paths over sources, with their total costs.
 
-use super::asked::{expect_sums, path_in, path_over, sums_of};
+use super::sample_paths::{expect_sums, path_in, path_over, sums_of};
 use crate::tests::dicts::{Changes, asymmetric, sample_with};
 use dict_image::Dict;
 use lattice::{Lattice, Path};
@@ -8,9 +8,9 @@ use mj_model::{SENTENCE_MAX, sample};
 use std::alloc::Global;
 use std::process::Abort;
 use std::test::Fail;
-use test_samples::{letters, overlay, system_dict};
+use test_support::samples::{letters, overlay, system_dict};
 
-/// The best path of a text with a grouping, where these are not too large.
+/// Returns the best path of `text` with the limit `grouping`, or `None` if either is too large.
 fn path_of(alloc: Global, dict: &Dict, grouping: u16, text: &str) -> Result<Option<Path>, Fail> {
     if grouping > 1000 {
         return Ok(None);
@@ -19,7 +19,7 @@ fn path_of(alloc: Global, dict: &Dict, grouping: u16, text: &str) -> Result<Opti
     Ok(path_over(alloc, &dictionaries, text)?)
 }
 
-/// Whether these are the surfaces of a path's words.
+/// Returns whether `surfaces` are the surfaces of the words of `path`.
 fn has_surfaces(path: &Option<Path>, text: &str, surfaces: &[&str]) -> bool {
     let Some(path) = path else {
         return false;
@@ -31,10 +31,10 @@ fn has_surfaces(path: &Option<Path>, text: &str, surfaces: &[&str]) -> bool {
     all
 }
 
-/// A grouping, a text, and the total and the surfaces of its best path.
+/// A grouping limit, a text, and the total cost and the surfaces of its best path.
 type GroupingRow<'a> = (u16, &'a str, i64, &'a [&'a str]);
 
-/// Asks for the best path of a text.
+/// Checks the best path of a text.
 fn expect_path(
     rt: &(impl Abort + Alloc<A = Global>),
     what: &str,
@@ -47,7 +47,8 @@ fn expect_path(
     Ok(())
 }
 
-/// A name, what is changed of the sample's dictionary, a text, and the total and the surfaces of its best path.
+/// A label, the changes of the sample's dictionary, a text, and the total cost and the surfaces of
+/// its best path.
 type PathRow<'a> = (&'a str, Changes<'a>, &'a str, i64, &'a [&'a str]);
 
 const TIE: Option<&str> = Some("a,1,1,10,X\nb,1,1,10,X\nab,1,1,27,X\n");
@@ -56,7 +57,7 @@ const WITH_BLANK: Option<&str> = Some("すもも,1,1,100,X\nも,1,1,20,X\nもも
 
 #[rattlefmt::skip]
 static BEST_PATHS: [PathRow<'static>; 12] = [
-    // (what, (a line of char.def, a lexicon in place of the sample's), text, total, surfaces)
+    // (what, (a line of char.def, a lexicon in place of the sample's), text, total cost, surfaces)
     ("sumomo", ("", None), "すもももも", 152, &["すもも", "もも"]),
     ("only_blanks", ("", None), "   ", 0, &[]),
     ("tie_later_place", ("", TIE), "ab", 42, &["a", "b"]),
@@ -80,7 +81,7 @@ fn best_paths(rt: HostRuntime) -> Result<(), Fail> {
     Ok(())
 }
 
-/// Asks for how many words the best path of so many letters has, and for its total.
+/// Checks the best path of `count` letters: its total cost and the number of its words.
 fn expect_letters(
     rt: &(impl Abort + Alloc<A = Global>),
     dict: &Dict,
@@ -101,7 +102,7 @@ const LETTERS_27: &str = "zzzzzzzzzzzzzzzzzzzzzzzzzzz";
 
 #[rattlefmt::skip]
 static GROUPING_LIMIT: [GroupingRow<'static>; 8] = [
-    // (grouping, text, total, surfaces)
+    // (grouping limit, text, total cost, surfaces)
     (24, LETTERS_25, 1015, &[LETTERS_25]),
     (24, LETTERS_26, 2022, &["z", LETTERS_25]),
     (25, LETTERS_26, 1015, &[LETTERS_26]),
@@ -118,7 +119,7 @@ fn grouping_limit(rt: HostRuntime) -> Result<(), Fail> {
     for row in &GROUPING_LIMIT {
         expect_path(&rt, row.1, &dict, *row)?;
     }
-    // The greatest grouping makes 1,001 letters one word.
+    // The greatest grouping limit groups 1,001 letters into one word.
     expect_letters(&rt, &dict, 1000, (1001, 1015, 1))
 }
 
@@ -131,7 +132,7 @@ fn asymmetric_matrix(rt: HostRuntime) -> Result<(), Fail> {
 }
 
 static LONGEST_LINE: [(usize, i64, usize); 3] = [
-    // (bytes, total, words)
+    // (bytes, total cost, words)
     (65_535, 65_969_585, 65_511),
     (65_536, 65_970_592, 65_512),
     (SENTENCE_MAX, 1_055_891_872, 1_048_552),
@@ -146,7 +147,7 @@ fn longest_line(rt: HostRuntime) -> Result<(), Fail> {
     Ok(())
 }
 
-/// Asks a lattice for the best path of a text.
+/// Checks the best path that `lattice` finds.
 fn expect_best(
     rt: &impl Abort,
     lattice: &mut Lattice,
@@ -159,7 +160,7 @@ fn expect_best(
     Ok(())
 }
 
-/// Asks a lattice for the best path of a long text.
+/// Checks the best path that `lattice` finds for a long text.
 fn expect_long(
     rt: &(impl Abort + Alloc<A = Global>),
     lattice: &mut Lattice,
@@ -171,7 +172,7 @@ fn expect_long(
 }
 
 static SHORTER_LINES: [(&str, i64, usize); 2] = [
-    // (text, total, words)
+    // (text, total cost, words)
     ("すもももも", 152, 2),
     ("", 0, 0),
 ];

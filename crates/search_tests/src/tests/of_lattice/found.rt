@@ -1,14 +1,14 @@
-//! Best paths whose words are read one after another.
+//! Best paths whose words are streamed.
 
 use super::super::sample::{has_number, sample_of};
 use super::BestRow;
 use mj_model::Word;
-use path_search::Search;
-use paths::WordsInTurn;
+use mj_model::paths::WordStream;
 use std::alloc::{AllocError, Global};
 use std::process::Abort;
+use viterbi::search::Search;
 
-/// Asks a search for the best path of a text, and reads its words one after another.
+/// Checks the best path that `search` finds, word by word.
 pub fn expect_found(
     rt: &(impl Abort + Alloc<A = Global>),
     search: &mut Search,
@@ -26,7 +26,7 @@ pub fn expect_found(
     Ok(())
 }
 
-/// Asks for a word with a number.
+/// Checks that `word` has the number `number`.
 fn expect_word(rt: &impl Abort, what: &str, word: Option<Word>, number: &usize) {
     match word {
         Some(word) => assert!(rt; has_number(&word, number), "{what}"),

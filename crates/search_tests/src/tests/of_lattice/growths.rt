@@ -1,24 +1,24 @@
-//! Best paths whose growths of memory `tests/out_of_memory/run.py` counts and compares.
+//! Best paths whose allocations `tests/out_of_memory/run.py` counts and compares.
 
-use super::asked::{expect_sums, path_in};
+use super::sample_paths::{expect_sums, path_in};
 use dict_image::Dict;
 use lattice::Lattice;
 use mj_model::sample;
 use std::alloc::Global;
 use std::process::Abort;
 use std::test::Fail;
-use test_samples::{letters, overlay, system_dict};
+use test_support::samples::{letters, overlay, system_dict};
 
-/// How many letters a text has.
+/// The number of letters of a text.
 const LETTERS: usize = 2_000;
 
-/// All letters but the last 25 are words of their own.
+/// All letters except the last 25 are single words.
 const WORDS: usize = 1_976;
 
 /// The first word costs 1,015 with its connections, and each further one 1,007.
 const TOTAL: i64 = 1_989_840;
 
-/// Asks a new lattice so many times.
+/// Finds the best path with a new lattice, `calls` times.
 fn ask_lattice(
     rt: &(impl Abort + Alloc<A = Global>),
     dict: &Dict,
@@ -34,7 +34,7 @@ fn ask_lattice(
     Ok(())
 }
 
-/// Asks so many lattices, each so many times.
+/// Finds the best path with each of `lattices` new lattices, `calls` times.
 fn ask(rt: &(impl Abort + Alloc<A = Global>), lattices: usize, calls: usize) -> Result<(), Fail> {
     let text = letters(rt.alloc(), LETTERS)?;
     let dict = system_dict(rt.alloc(), &sample())?;

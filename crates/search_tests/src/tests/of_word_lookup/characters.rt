@@ -4,9 +4,10 @@ use super::expected_words::is_at;
 use crate::tests::dicts::sample_with;
 use std::alloc::Global;
 use std::test::Fail;
-use test_samples::overlay;
+use test_support::samples::overlay;
 
-/// The place behind the blanks of a place, over the sample's dictionary with a further line of `char.def`.
+/// Returns the position after the blanks at `place`, over the sample's dictionary with `line`
+/// appended to `char.def`.
 fn blanks_behind(
     alloc: Global,
     line: &str,
@@ -24,7 +25,7 @@ fn blanks_behind(
 
 #[rattlefmt::skip]
 static BLANKS: [(&str, &str, &str, usize, usize); 7] = [
-    // (what, a further line of char.def, text, place, place behind the blanks)
+    // (what, a further line of char.def, text, position, position after the blanks)
     ("no blank", "", "も", 0, 0),
     ("one blank", "", " すもも  もも ", 0, 1),
     ("two blanks", "", " すもも  もも ", 10, 12),
@@ -36,14 +37,14 @@ static BLANKS: [(&str, &str, &str, usize, usize); 7] = [
 
 #[test]
 fn blanks(rt: HostRuntime) -> Result<(), Fail> {
-    for (what, line, text, place, behind) in &BLANKS {
+    for (what, line, text, place, following) in &BLANKS {
         let found = blanks_behind(rt.alloc(), line, text, *place)?;
-        assert_eq!(rt; found, Some(*behind), "{what}");
+        assert_eq!(rt; found, Some(*following), "{what}");
     }
     Ok(())
 }
 
-/// The categories of a character, and the first of them.
+/// Returns the categories of `c`, and the first of them.
 fn categories_of(alloc: Global, line: &str, c: char) -> Result<(u32, u8), Fail> {
     let system = sample_with(alloc, (line, None))?;
     let info = overlay(&system, &[])?.info(c);

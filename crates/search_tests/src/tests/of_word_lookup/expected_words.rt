@@ -1,28 +1,29 @@
-//! Words of a place as rows tell them.
+//! The expected words at a position.
 
 ghost use Rattle.std.specs.Prelude.{IsTrue};
-ghost use Rattle.paths.specs.Words.{is_place};
+ghost use Rattle.mj_model.specs.Words.{is_place};
 
 use dict_image::Dict;
 use mj_model::{Origin, Word};
 use std::alloc::{AllocError, Global};
 use std::test::Fail;
-use test_samples::overlay;
+use test_support::samples::overlay;
 use word_lookup::Dictionaries;
 
-/// A word, by the bytes from which and up to which its surface stands.
+/// A word, by the start and the end of its surface in bytes.
 #[derive(Clone, Copy)]
 pub enum Expected {
-    /// A word of the system's lexicon, with its cost and its feature.
+    /// A word of the system dictionary, with its cost and its feature.
     Known(usize, usize, i16, &'static str),
-    /// A word of the user dictionary of this number, counted from 1, with its cost and its feature.
+    /// A word of a user dictionary: its number, counted from 1, the start and end, its cost and its
+    /// feature.
     User(usize, usize, usize, i16, &'static str),
-    /// An unknown word of the sample: its cost is 1,000 and its feature 未知.
+    /// An unknown word of the sample, which has cost 1,000 and the feature 未知.
     Unknown(usize, usize),
 }
 
 impl Expected {
-    /// Whether a word at a place is this one.
+    /// Returns whether `word` is this one and lies at `place`.
     fn is(self, word: &Word, place: usize, feature: &str) -> bool {
         let (dict, start, end, cost, expected) = match self {
             Expected::Known(start, end, cost, feature) => (Some(0), start, end, cost, feature),
@@ -35,19 +36,19 @@ impl Expected {
             Origin::Known { dict, .. } => Some(dict),
             Origin::Unknown { .. } => None,
         };
-        let stands = word.place == place && word.start == start && word.end == end;
-        stands && from == dict && word.cost == cost && feature == expected
+        let lies = word.place == place && word.start == start && word.end == end;
+        lies && from == dict && word.cost == cost && feature == expected
     }
 }
 
-/// Whether a character begins or the text ends there.
+/// Returns whether a character starts or the text ends at `place`.
 pub fn is_at(text: &str, place: usize) -> bool
     ensures { IsTrue result → IsTrue (is_place text.now place) }
 {
     text.is_char_boundary(place)
 }
 
-/// Whether these words of a place are the expected ones.
+/// Returns whether `words`, which lie at `place`, are `expected`.
 pub fn are_expected(
     words: &[Word],
     dictionaries: &Dictionaries<'_>,
@@ -61,7 +62,7 @@ pub fn are_expected(
     all
 }
 
-/// Appends the words of a place, where a character begins or the text ends there.
+/// Appends the words at `place`, if a character starts or the text ends there.
 pub fn add_words(
     alloc: Global,
     dictionaries: &Dictionaries<'_>,
@@ -75,7 +76,7 @@ pub fn add_words(
     Ok(())
 }
 
-/// Whether these are the words of a place.
+/// Returns whether `expected` are the words at `place`.
 pub fn are_words(
     alloc: Global,
     dictionaries: &Dictionaries<'_>,
@@ -88,7 +89,8 @@ pub fn are_words(
     Ok(are_expected(&words, dictionaries, place, expected))
 }
 
-/// Whether these are the words of a place, over dictionaries of a system and of users.
+/// Returns whether `expected` are the words at `place`, over a system dictionary and user
+/// dictionaries.
 pub fn has_words(
     alloc: Global,
     (system, users): (&Dict, &[Dict]),

@@ -1,29 +1,29 @@
-//! Words over dictionaries of images of layouts 1, 2 and 3: they are the same.
+//! Words over dictionaries loaded from images of layouts 1, 2 and 3. They are the same.
 
 use super::expected_words::Expected::{self, Known, Unknown};
 use super::expected_words::has_words;
 use std::alloc::Global;
 use std::process::Abort;
 use std::test::Fail;
-use test_samples::system_in;
+use test_support::samples::system_in;
 
-/// Two words that cost as much as the one of both letters.
+/// Two words, and a word of both letters with the same total cost.
 const TIE: &str = "a,1,1,10,X\nb,1,1,10,X\nab,1,1,27,X\n";
 
 /// A surface with two entries.
 const TWICE: &str = "a,1,1,10,X\na,1,1,10,Y\n";
 
-/// A lexicon, its surfaces, a text, and the words at its beginning.
+/// A lexicon, its surfaces, a text, and the words at its start.
 type Row<'a> = (&'a str, &'a [&'a str], &'a str, &'a [Expected]);
 
 #[rattlefmt::skip]
 static WORDS_OF_FURTHER_LEXICONS: [Row<'static>; 2] = [
-    // (lexicon, surfaces, text, words at its beginning)
+    // (lexicon, surfaces, text, words at its start)
     (TIE, &["a", "ab", "b"], "ab", &[Known(0, 1, 10, "X"), Known(0, 2, 27, "X"), Unknown(0, 2)]),
     (TWICE, &["a"], "a", &[Known(0, 1, 10, "X"), Known(0, 1, 10, "Y"), Unknown(0, 1)]),
 ];
 
-/// Asks for the words over the dictionaries of lexicons in a layout.
+/// Checks the words over the dictionaries of lexicons in layout `layout`.
 fn expect_words(
     rt: &(impl Abort + Alloc<A = Global>),
     layout: u32,

@@ -1,4 +1,4 @@
-//! Users' dictionaries over a system's.
+//! User dictionaries over a system dictionary.
 
 use super::expected_words::Expected::{self, Known, User};
 use super::expected_words::has_words;
@@ -7,10 +7,10 @@ use mj_model::{Origin, OverlayFault, Sources, Word, sample};
 use std::alloc::Global;
 use std::process::Abort;
 use std::test::Fail;
-use test_samples::{overlay, system, system_dict, user};
+use test_support::samples::{overlay, system, system_dict, user};
 use word_lookup::Dictionaries;
 
-/// The one line of a user's lexicon.
+/// The only line of a user lexicon.
 const USER: &str = "もも,1,1,1,名詞,ユーザ\n";
 
 #[rattlefmt::skip]
@@ -21,7 +21,7 @@ static WORDS: [Expected; 4] = [
     User(2, 0, 6, 1, "名詞,ユーザ"),
 ];
 
-/// So many dictionaries of users for a system.
+/// Returns `count` user dictionaries for `system`.
 fn users_of(alloc: Global, system: &Dict, count: usize) -> Result<Vec<Dict>, Fail> {
     let mut users = Vec::new(alloc);
     for _user in 0..count {
@@ -30,7 +30,8 @@ fn users_of(alloc: Global, system: &Dict, count: usize) -> Result<Vec<Dict>, Fai
     Ok(users)
 }
 
-/// Whether a text has the words of the sample's system and one of each of so many users.
+/// Returns whether a text has the words of the sample and one word of each of `count` user
+/// dictionaries.
 fn has_words_of(alloc: Global, count: usize) -> Result<bool, Fail> {
     let system = system(alloc, "", sample().lexicons)?;
     let users = users_of(alloc, &system, count)?;
@@ -46,7 +47,7 @@ fn words_of_users(rt: HostRuntime) -> Result<(), Fail> {
     Ok(())
 }
 
-/// The sample's dictionary with three left ids.
+/// Returns the sample's dictionary with three left ids.
 fn wide_system(alloc: Global) -> Result<Dict, Fail> {
     let sources = Sources {
         matrix: b"2 3\n",
@@ -55,13 +56,14 @@ fn wide_system(alloc: Global) -> Result<Dict, Fail> {
     system_dict(alloc, &sources)
 }
 
-/// Adds a user's dictionary for a system.
+/// Appends a user dictionary for `system` to `dicts`.
 fn add_user(alloc: Global, dicts: &mut Vec<Dict>, system: &Dict) -> Result<(), Fail> {
     dicts.push(user(alloc, system, USER)?)?;
     Ok(())
 }
 
-/// A user's dictionary for the sample's system and one for the wide system, the sample's system, the second once more, and the wide system.
+/// Returns five dictionaries: a user dictionary for the sample and one for the wide system, the
+/// sample, a second user dictionary for the wide system, and the wide system.
 fn dicts(alloc: Global) -> Result<Vec<Dict>, Fail> {
     let mut dicts = Vec::new(alloc);
     let system = system(alloc, "", sample().lexicons)?;
@@ -74,12 +76,12 @@ fn dicts(alloc: Global) -> Result<Vec<Dict>, Fail> {
     Ok(dicts)
 }
 
-/// A name, the number of a system among the dictionaries, from which and up to which users stand over it, and the fault.
+/// A label, the index of the system dictionary, the range of the user dictionaries, and the error.
 type Row<'a> = (&'a str, usize, (usize, usize), OverlayFault);
 
 #[rattlefmt::skip]
 static REFUSED_OVERLAYS: [Row<'static>; 6] = [
-    // (what, system, users, fault)
+    // (what, system, users, error)
     ("user as system",                  0, (0, 0), OverlayFault::NotSystem),
     ("user as system before its users", 0, (2, 4), OverlayFault::NotSystem),
     ("system as user",                  2, (2, 4), OverlayFault::NotUser(0)),
@@ -88,8 +90,9 @@ static REFUSED_OVERLAYS: [Row<'static>; 6] = [
     ("system of sizes 2 3 as user",     2, (4, 5), OverlayFault::NotUser(0)),
 ];
 
-/// What a system and users over it, by their numbers, are refused for.
-fn refused(dicts: &[Dict], system: usize, (from, to): (usize, usize)) -> Option<OverlayFault> {
+/// Returns the error of combining the dictionary `system` with the range `from..to`, if there is
+/// one.
+fn rejected(dicts: &[Dict], system: usize, (from, to): (usize, usize)) -> Option<OverlayFault> {
     match (dicts.get(system), dicts.get(from..to)) {
         (Some(system), Some(users)) => overlay(system, users).err(),
         _ => None,
@@ -100,13 +103,13 @@ fn refused(dicts: &[Dict], system: usize, (from, to): (usize, usize)) -> Option<
 fn refused_overlays(rt: HostRuntime) -> Result<(), Fail> {
     let dicts = dicts(rt.alloc())?;
     for (what, system, users, fault) in &REFUSED_OVERLAYS {
-        let refused = refused(&dicts, *system, *users);
-        assert_eq!(rt; refused, Some(*fault), "{what}");
+        let rejected = rejected(&dicts, *system, *users);
+        assert_eq!(rt; rejected, Some(*fault), "{what}");
     }
     Ok(())
 }
 
-/// Asks for the feature of a word of this origin.
+/// Checks the feature of a word with this origin.
 fn expect_feature(
     rt: &impl Abort,
     what: &str,
@@ -148,7 +151,7 @@ fn features_of_numbers(rt: HostRuntime) -> Result<(), Fail> {
     Ok(())
 }
 
-/// The connection cost of a right id and a left id within a system's sizes.
+/// Returns the connection cost of `right` and `left`, or `None` if one is out of range.
 fn cost_of(system: &Dict, right: u16, left: u16) -> Result<Option<i16>, OverlayFault> {
     let dictionaries = Dictionaries::new(system, &[])?;
     if system.matrix_sizes().contains(right, left) {
@@ -160,7 +163,7 @@ fn cost_of(system: &Dict, right: u16, left: u16) -> Result<Option<i16>, OverlayF
 
 #[rattlefmt::skip]
 static COSTS: [(u16, u16, Option<i16>); 5] = [
-    // (right id before, left id after, cost)
+    // (right id of the preceding word, left id of the following word, cost)
     (0, 0, Some(0)),
     (0, 1, Some(10)),
     (1, 0, Some(5)),

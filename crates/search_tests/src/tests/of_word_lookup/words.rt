@@ -1,4 +1,4 @@
-//! Words of places.
+//! Words at a position.
 
 use super::expected_words::Expected::{self, Known, Unknown};
 use super::expected_words::{are_words, has_words};
@@ -7,9 +7,9 @@ use dict_image::Dict;
 use std::alloc::Global;
 use std::process::Abort;
 use std::test::Fail;
-use test_samples::{letters, overlay};
+use test_support::samples::{letters, overlay};
 
-/// What is asked, what is changed of the sample's dictionary, a text, a place, and the words there.
+/// A label, the changes of the sample's dictionary, a text, a position, and the words there.
 type Row<'a> = (&'a str, Changes<'a>, &'a str, usize, &'a [Expected]);
 
 fn expect_words(rt: &(impl Abort + Alloc<A = Global>), rows: &[Row<'_>]) -> Result<(), Fail> {
@@ -74,10 +74,13 @@ const BLANK: Option<&str> = Some("も,1,1,20,助詞,も\nも ,1,1,500,Z\n");
 
 #[rattlefmt::skip]
 static WORDS_OF_LEXICONS: [Row<'static>; 5] = [
-    ("tie_later_place", ("", TIE), "ab", 0, &[Known(0, 1, 10, "X"), Known(0, 2, 27, "X"), Unknown(0, 2)]),
-    ("same_surface_twice", ("", TWICE), "a", 0, &[Known(0, 1, 10, "X"), Known(0, 1, 10, "Y"), Unknown(0, 1)]),
+    ("tie_later_place", ("", TIE), "ab", 0,
+        &[Known(0, 1, 10, "X"), Known(0, 2, 27, "X"), Unknown(0, 2)]),
+    ("same_surface_twice", ("", TWICE), "a", 0,
+        &[Known(0, 1, 10, "X"), Known(0, 1, 10, "Y"), Unknown(0, 1)]),
     ("ends_later", ("", BLANK), "も ", 0, &[Known(0, 3, 20, "助詞,も"), Known(0, 4, 500, "Z")]),
-    ("quoted_fields", ("", Some("\"a,b\",1,1,10,X\n")), "a,b", 0, &[Known(0, 3, 10, "X"), Unknown(0, 1)]),
+    ("quoted_fields", ("", Some("\"a,b\",1,1,10,X\n")), "a,b", 0,
+        &[Known(0, 3, 10, "X"), Unknown(0, 1)]),
     ("empty_lexicon", ("", Some("")), "も", 0, &[Unknown(0, 3)]),
 ];
 
@@ -86,10 +89,12 @@ fn words_of_lexicons(rt: HostRuntime) -> Result<(), Fail> {
     expect_words(&rt, &WORDS_OF_LEXICONS)
 }
 
-/// A grouping, how many letters a text has, a place, and the end of the one word there.
+/// A grouping limit, the number of letters of a text, a position, and the end of the only word
+/// there.
 type GroupedRow = (u16, usize, usize, usize);
 
-/// Whether an unknown word is the one word at a place, by where it ends, over a dictionary with a grouping.
+/// Returns whether the only word at `place` is an unknown word that ends at `end`, with the limit
+/// `grouping`.
 fn is_grouped(
     alloc: Global,
     (dict, grouping): (&Dict, u16),
@@ -120,7 +125,7 @@ fn expect_grouped(
 
 #[rattlefmt::skip]
 static GROUPING_LIMIT: [GroupedRow; 9] = [
-    // (grouping, letters, place, end of the one word there)
+    // (grouping limit, letters, position, end of the only word there)
     (24, 25, 0, 25),
     (24, 26, 0, 1),
     (24, 26, 1, 26),

@@ -4,10 +4,10 @@ use Rattle.dict_compile.proofs.FirstFaults.{not_compiled}
 use Rattle.segmenter.specs.SourceDicts.{IsDictOf}
 use Rattle.segmenter.proofs.dicts.system_dict.Goals as goal
 
-pub returns-in_err-compiled-clause-refused : goal.returns-in_err-compiled-clause-refused
-returns-in_err-compiled-clause-refused c =
+pub returns-in_err-compiled-clause-rejected : goal.returns-in_err-compiled-clause-rejected
+returns-in_err-compiled-clause-rejected c =
     let p = err_from_is_err_and c.from_residual.result c.from_residual.ensures.1 in
-    rw (p.1, p.2) c.in_err-compiled.ensures.refused
+    rw (p.1, p.2) c.in_err-compiled.ensures.rejected
 
 pub returns-in_err-compiled-clause-first : goal.returns-in_err-compiled-clause-first
 returns-in_err-compiled-clause-first c = λ fault h.
@@ -20,8 +20,8 @@ load_written-requires-clause-intact c = c.in_ok-compiled.ensures.compiled.compil
 pub load_written-requires-clause-layout : goal.load_written-requires-clause-layout
 load_written-requires-clause-layout c = c.in_ok-compiled.ensures.compiled.compiled.layout
 
-pub returns-in_err-load_written-clause-refused : goal.returns-in_err-load_written-clause-refused
-returns-in_err-load_written-clause-refused c =
+pub returns-in_err-load_written-clause-rejected : goal.returns-in_err-load_written-clause-rejected
+returns-in_err-load_written-clause-rejected c =
     let p = err_from_is_err_and c.from_residual-in_err-load_written.result c.from_residual-in_err-load_written.ensures.1 in
     rw p.1 (inl p.2)
 

@@ -1,6 +1,6 @@
 use Rattle.std.proofs.Common.{subst, sym, inl}
 use Rattle.std.proofs.lemmas.Result.{err_from_is_err_and}
-use Rattle.image_bytes.specs.ImageMeaning.{image_tables}
+use Rattle.image_format.specs.ImageMeaning.{image_tables}
 use Rattle.segmenter.specs.SourceDicts.{IsUserDictOf, lexicons_of}
 use Rattle.segmenter.proofs.dicts.user_dict.Goals as goal
 
@@ -15,8 +15,8 @@ returns-in_err-load_written-clause-dict c =
     let p = err_from_is_err_and c.from_residual.result c.from_residual.ensures.1 in
     rw p.1 tt
 
-pub returns-in_err-load_written-clause-refused : goal.returns-in_err-load_written-clause-refused
-returns-in_err-load_written-clause-refused c =
+pub returns-in_err-load_written-clause-rejected : goal.returns-in_err-load_written-clause-rejected
+returns-in_err-load_written-clause-rejected c =
     let p = err_from_is_err_and c.from_residual.result c.from_residual.ensures.1 in
     rw p.1 (inl p.2)
 

@@ -1,4 +1,4 @@
-//! Rows of `char.def`.
+//! `char.def`.
 
 use super::samples::{TWELVE, chars_of, chars_with, commented, info_with, joined};
 use crate::tests::faults::{File, expect_faults};
@@ -10,7 +10,7 @@ use std::test::Fail;
 /// A category: its name, INVOKE, GROUP and LENGTH.
 type Named = (&'static str, bool, bool, u8);
 
-/// Whether the category of a number is this one.
+/// Returns whether category `number` is `expected`.
 fn is_category(table: &CharTable, number: usize, expected: &Named) -> bool {
     let (name, invoke, group, length) = *expected;
     #[rattlefmt::skip]
@@ -18,10 +18,10 @@ fn is_category(table: &CharTable, number: usize, expected: &Named) -> bool {
     number < table.count() && table.name(number) == name && table.category(number) == category
 }
 
-/// Lines of a category.
+/// Lines that define a category.
 #[rattlefmt::skip]
 static LINES: [(&[u8], Named); 4] = [
-    // (a line behind the sample's 12, its category)
+    // (a line after the sample's 12, its category)
     (b"SYMBOL\t\t0 0 2  # two at most", ("SYMBOL", false, false, 2)),
     (b"SYMBOL 1 0 15 more",            ("SYMBOL", true,  false, 15)),
     (b"SYMBOL +1 -0 015",              ("SYMBOL", true,  false, 15)),
@@ -73,7 +73,7 @@ static CATEGORIES: [Named; 6] = [
     ("HIRAGANA", false, true, 2),
 ];
 
-/// Asks for the sample's categories.
+/// Checks the sample's categories.
 fn expect_categories(rt: &impl Abort, table: &CharTable) {
     assert_eq!(rt; table.count(), CATEGORIES.len());
     for (i, expected) in CATEGORIES.iter().enumerate() {
@@ -88,34 +88,53 @@ fn categories(rt: HostRuntime) -> Result<(), Fail> {
     Ok(())
 }
 
-/// Code points with their categories.
+// The categories of a character, by the names that its line lists. The first name is the head.
+const DEFAULT: CharInfo = CharInfo { bits: 1, head: 0 };
+
+const SPACE: CharInfo = CharInfo { bits: 2, head: 1 };
+
+const ALPHA: CharInfo = CharInfo { bits: 4, head: 2 };
+
+const KATAKANA: CharInfo = CharInfo { bits: 8, head: 3 };
+
+const KANJI: CharInfo = CharInfo { bits: 16, head: 4 };
+
+const SYMBOL: CharInfo = CharInfo { bits: 64, head: 6 };
+
+const KANJI_ALPHA: CharInfo = CharInfo { bits: 20, head: 4 };
+
+const KATAKANA_HIRAGANA: CharInfo = CharInfo { bits: 40, head: 3 };
+
+const HIRAGANA_KATAKANA: CharInfo = CharInfo { bits: 40, head: 5 };
+
+/// Code points and their categories.
 #[rattlefmt::skip]
 static CODE_POINTS: [(&str, &[u8], u32, CharInfo); 24] = [
     // (what, further lines, code point, its categories)
-    ("a comment alone", b"# 0x41 KANJI", 0x41, CharInfo { bits: 4, head: 2 }),
-    ("blanks before a comment", b" \t# KANJI 9", 0x41, CharInfo { bits: 4, head: 2 }),
-    ("leading zeros", b"0x00000000000041 KANJI", 0x41, CharInfo { bits: 16, head: 4 }),
-    ("a range and a comment", b"0x100..0x1fF KANJI # ideographs", 0x1FF, CharInfo { bits: 16, head: 4 }),
-    ("a name twice", b"0x10ffff KANJI ALPHA KANJI", 0x10FFFF, CharInfo { bits: 20, head: 4 }),
-    ("defined behind", b"0x3007 SYMBOL\nSYMBOL 0 0 0", 0x3007, CharInfo { bits: 64, head: 6 }),
-    ("the last code point of the plane", b"0xFFFF KANJI", 0xFFFF, CharInfo { bits: 16, head: 4 }),
-    ("not mapped", b"", 0x20BB7, CharInfo { bits: 1, head: 0 }),
-    ("a surrogate", b"", 0xD800, CharInfo { bits: 1, head: 0 }),
-    ("the first code point", b"0x0000 KANJI", 0, CharInfo { bits: 16, head: 4 }),
-    ("not the entry of U+0000", b"0x0000 KANJI", 0x20BB7, CharInfo { bits: 1, head: 0 }),
-    ("mapped", b"0x20000..0x2A6DF KANJI", 0x20BB7, CharInfo { bits: 16, head: 4 }),
-    ("the low end", b"0x20000..0x2A6DF KANJI", 0x20000, CharInfo { bits: 16, head: 4 }),
-    ("the high end", b"0x20000..0x2A6DF KANJI", 0x2A6DF, CharInfo { bits: 16, head: 4 }),
-    ("behind the high end", b"0x20000..0x2A6DF KANJI", 0x2A6E0, CharInfo { bits: 1, head: 0 }),
-    ("before the low end", b"0x20000..0x2A6DF KANJI", 0x1FFFF, CharInfo { bits: 1, head: 0 }),
-    ("the last code point", b"0x10FFFF KANJI", 0x10FFFF, CharInfo { bits: 16, head: 4 }),
-    ("two categories", b"0x30FC KATAKANA HIRAGANA", 0x30FC, CharInfo { bits: 40, head: 3 }),
-    ("the other order", b"0x30FC HIRAGANA KATAKANA HIRAGANA", 0x30FC, CharInfo { bits: 40, head: 5 }),
-    ("beside a later mapping", b"0x30FC KATAKANA HIRAGANA", 0x30FD, CharInfo { bits: 8, head: 3 }),
-    ("the last of two", b"0x41..0x43 KANJI\n0x42 SPACE", 0x42, CharInfo { bits: 2, head: 1 }),
-    ("beside the last of two", b"0x41..0x43 KANJI\n0x42 SPACE", 0x43, CharInfo { bits: 16, head: 4 }),
-    ("behind both", b"0x41..0x43 KANJI\n0x42 SPACE", 0x44, CharInfo { bits: 4, head: 2 }),
-    ("the last of three", b"0x41 KANJI\n0x40..0x50 SPACE\n0x41..0x42 DEFAULT", 0x41, CharInfo { bits: 1, head: 0 }),
+    ("a comment alone", b"# 0x41 KANJI", 0x41, ALPHA),
+    ("blanks before a comment", b" \t# KANJI 9", 0x41, ALPHA),
+    ("leading zeros", b"0x00000000000041 KANJI", 0x41, KANJI),
+    ("a range and a comment", b"0x100..0x1fF KANJI # ideographs", 0x1FF, KANJI),
+    ("a name twice", b"0x10ffff KANJI ALPHA KANJI", 0x10FFFF, KANJI_ALPHA),
+    ("defined behind", b"0x3007 SYMBOL\nSYMBOL 0 0 0", 0x3007, SYMBOL),
+    ("the last code point of the plane", b"0xFFFF KANJI", 0xFFFF, KANJI),
+    ("not mapped", b"", 0x20BB7, DEFAULT),
+    ("a surrogate", b"", 0xD800, DEFAULT),
+    ("the first code point", b"0x0000 KANJI", 0, KANJI),
+    ("not the entry of U+0000", b"0x0000 KANJI", 0x20BB7, DEFAULT),
+    ("mapped", b"0x20000..0x2A6DF KANJI", 0x20BB7, KANJI),
+    ("the low end", b"0x20000..0x2A6DF KANJI", 0x20000, KANJI),
+    ("the high end", b"0x20000..0x2A6DF KANJI", 0x2A6DF, KANJI),
+    ("behind the high end", b"0x20000..0x2A6DF KANJI", 0x2A6E0, DEFAULT),
+    ("before the low end", b"0x20000..0x2A6DF KANJI", 0x1FFFF, DEFAULT),
+    ("the last code point", b"0x10FFFF KANJI", 0x10FFFF, KANJI),
+    ("two categories", b"0x30FC KATAKANA HIRAGANA", 0x30FC, KATAKANA_HIRAGANA),
+    ("the other order", b"0x30FC HIRAGANA KATAKANA HIRAGANA", 0x30FC, HIRAGANA_KATAKANA),
+    ("beside a later mapping", b"0x30FC KATAKANA HIRAGANA", 0x30FD, KATAKANA),
+    ("the last of two", b"0x41..0x43 KANJI\n0x42 SPACE", 0x42, SPACE),
+    ("beside the last of two", b"0x41..0x43 KANJI\n0x42 SPACE", 0x43, KANJI),
+    ("behind both", b"0x41..0x43 KANJI\n0x42 SPACE", 0x44, ALPHA),
+    ("the last of three", b"0x41 KANJI\n0x40..0x50 SPACE\n0x41..0x42 DEFAULT", 0x41, DEFAULT),
 ];
 
 #[test]

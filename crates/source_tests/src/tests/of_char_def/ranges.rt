@@ -1,16 +1,16 @@
 //! Ranges of code points with the same categories.
 
 use super::samples::{commented, joined, table_of};
-use char_def::InfoRange;
+use char_def::CategoryRange;
 use mj_model::sample;
 use std::alloc::Global;
 use std::test::Fail;
 
-/// A range: its first code point, its set of categories and the first of them.
+/// A range: its first code point, its set of categories, and its first category.
 type Range = (u32, u32, u8);
 
-/// Whether these are the ranges.
-fn are_ranges(found: &[InfoRange], expected: &[Range]) -> bool {
+/// Returns whether `found` are the ranges `expected`.
+fn are_ranges(found: &[CategoryRange], expected: &[Range]) -> bool {
     let mut all = found.len() == expected.len();
     for (range, expected) in found.iter().zip(expected) {
         let (first, bits, head) = *expected;
@@ -20,19 +20,19 @@ fn are_ranges(found: &[InfoRange], expected: &[Range]) -> bool {
     all
 }
 
-/// Whether a `char.def` has these ranges.
+/// Returns whether the `char.def` `bytes` has the ranges `expected`.
 fn has_ranges(alloc: Global, bytes: &[u8], expected: &[Range]) -> Result<bool, Fail> {
     let ranges = table_of(alloc, bytes)?.ranges(alloc)?;
     Ok(are_ranges(&ranges, expected))
 }
 
-/// Whether DEFAULT and SPACE with mappings have these ranges.
+/// Returns whether DEFAULT and SPACE with `mappings` have the ranges `expected`.
 fn are_mapped(alloc: Global, mappings: &[u8], expected: &[Range]) -> Result<bool, Fail> {
     let bytes = joined(alloc, b"DEFAULT 0 1 0\nSPACE 0 1 0\n", mappings)?;
     has_ranges(alloc, &bytes, expected)
 }
 
-/// Mappings with their ranges.
+/// Mappings and their ranges.
 #[rattlefmt::skip]
 static RANGES: [(&str, &[u8], &[Range]); 11] = [
     // (what, mappings, ranges)
@@ -49,6 +49,16 @@ static RANGES: [(&str, &[u8], &[Range]); 11] = [
     ("nested", b"0x0..0x2 SPACE\n0x1 DEFAULT", &[(0, 2, 1), (1, 1, 0), (2, 2, 1), (3, 1, 0)]),
 ];
 
+/// The ranges of the sample.
+#[rattlefmt::skip]
+static OF_THE_SAMPLE: [Range; 13] = [
+    (0,      1,  0), (0x20, 2, 1), (0x21, 1, 0),
+    (0x41, 4, 2), (0x5B, 1, 0), (0x61, 4, 2), (0x7B, 1, 0),
+    (0x3041, 32, 5), (0x30A0, 1, 0),
+    (0x30A1, 8,  3), (0x3100, 1, 0),
+    (0x4E00, 16, 4), (0xA000, 1, 0),
+];
+
 #[test]
 fn ranges(rt: HostRuntime) -> Result<(), Fail> {
     for (what, mappings, expected) in &RANGES {
@@ -56,15 +66,6 @@ fn ranges(rt: HostRuntime) -> Result<(), Fail> {
     }
     Ok(())
 }
-
-/// The ranges of the sample.
-#[rattlefmt::skip]
-static OF_THE_SAMPLE: [Range; 13] = [
-    (0,      1,  0), (0x20, 2, 1), (0x21, 1, 0), (0x41, 4, 2), (0x5B, 1, 0), (0x61, 4, 2), (0x7B, 1, 0),
-    (0x3041, 32, 5), (0x30A0, 1, 0),
-    (0x30A1, 8,  3), (0x3100, 1, 0),
-    (0x4E00, 16, 4), (0xA000, 1, 0),
-];
 
 #[test]
 fn ranges_of_the_sample(rt: HostRuntime) -> Result<(), Fail> {

@@ -1,4 +1,4 @@
-//! Rows of `unk.def`.
+//! `unk.def`.
 
 use super::samples::{joined, unk_fault, unk_of};
 use crate::tests::faults::{File, expect_faults};
@@ -13,7 +13,7 @@ use std::test::Fail;
 /// The number of KANJI among the sample's categories.
 const KANJI: usize = 4;
 
-/// The lines of KANJI, if there are those of so many categories.
+/// Returns the lines of KANJI, or none unless `unknown` has `count` categories.
 fn kanji_lines<'a, 'b>(unknown: &'b UnkTable<'a>, count: usize) -> &'b [Record<'a>] {
     if unknown.count() != count || count <= KANJI {
         return &[];
@@ -21,16 +21,17 @@ fn kanji_lines<'a, 'b>(unknown: &'b UnkTable<'a>, count: usize) -> &'b [Record<'
     unknown.lines(KANJI)
 }
 
-/// Further lines, and what KANJI has then.
+/// Further lines, and the lines that KANJI has then.
 #[rattlefmt::skip]
 static OF_KANJI: [(&str, &[u8], usize, i16); 3] = [
-    // (what, a line behind the sample's 6, how many lines KANJI has then, the last one's cost)
+    // (what, a line after the sample's 6, the number of KANJI's lines then, the cost of the last)
     ("a second line", b"KANJI,0,0,-5,Y,Z\n",  2, -5),
     ("a blank line",  b" \t\n",              1, 1_000),
     ("quotes",        b"\"KANJI\",1,1,1,Y\n", 2, 1),
 ];
 
-/// Whether KANJI has so many lines behind the sample's, and the last one this cost.
+/// Returns whether KANJI has `count` lines with `further` appended, and the last has the cost
+/// `cost`.
 fn has_lines(
     rt: &(impl Alloc<A = Global> + Eprint),
     further: &[u8],
@@ -72,11 +73,11 @@ fn is_line(record: &Record<'_>, expected: &Expected) -> bool {
         && entry.feature == feature
 }
 
-/// Lines of all categories but KATAKANA.
+/// Lines of all categories except KATAKANA.
 static ALL_BUT_ONE: &[u8] =
     b"KANJI,1,2,3,A\nSPACE,1,1,1,X\nALPHA,1,1,1,X\nKANJI,4,5,-6,B,C\nDEFAULT,1,1,1,X\nHIRAGANA,1,1,1,X\n";
 
-/// Asks for the lines of KANJI.
+/// Checks the lines of KANJI.
 fn expect_kanji(rt: &impl Abort, kanji: &[Record<'_>]) {
     assert!(rt; kanji.len() == LINES.len());
     for (record, expected) in kanji.iter().zip(&LINES) {
@@ -94,7 +95,7 @@ fn unknown_entries(rt: HostRuntime) -> Result<(), Fail> {
     Ok(())
 }
 
-/// Sizes, and the first line whose ids lie outside.
+/// Sizes of a matrix, and the first line with an id out of range.
 #[rattlefmt::skip]
 static OUTSIDE: [(&str, MatrixSizes, Option<u64>); 6] = [
     // (what, sizes, line)
@@ -106,7 +107,7 @@ static OUTSIDE: [(&str, MatrixSizes, Option<u64>); 6] = [
     ("no ids",         MatrixSizes { right: 0, left: 0 }, Some(1)),
 ];
 
-/// The first line with an id outside, of lines of all categories.
+/// Returns the first line with an id out of range.
 fn line_outside(
     rt: &(impl Alloc<A = Global> + Eprint),
     sizes: MatrixSizes,

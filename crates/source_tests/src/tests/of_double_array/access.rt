@@ -1,10 +1,10 @@
-//! Insertion and lookup, as the rows ask for them.
+//! Insertions and lookups, as the test cases need them.
 ghost use Rattle.std.specs.Prelude.{◌≡◌};
 
 use double_array::{CellRead, DaFault, DoubleArray, Hit, Inserted, get, prefixes};
 use std::cell::Cell;
 
-/// The cells of an array, and how often one of them was read.
+/// The cells of an array, with a count of the reads.
 #[derive(Drop)]
 pub struct Counting<'a> {
     array: &'a DoubleArray,
@@ -33,7 +33,7 @@ impl CellRead for Counting<'_> {
     }
 }
 
-/// A cell, if it is there.
+/// Returns cell `i`, or `None` past the end.
 pub fn cell(array: &DoubleArray, i: usize) -> Option<(i32, i32)> {
     if i < array.len() {
         Some(array.cell(i))
@@ -42,7 +42,7 @@ pub fn cell(array: &DoubleArray, i: usize) -> Option<(i32, i32)> {
     }
 }
 
-/// Whether two arrays have the same cells.
+/// Returns whether two arrays have the same cells.
 pub fn have_same_cells(array: &DoubleArray, other: &DoubleArray) -> bool {
     if array.len() != other.len() {
         return false;
@@ -55,7 +55,7 @@ pub fn have_same_cells(array: &DoubleArray, other: &DoubleArray) -> bool {
     true
 }
 
-/// Inserts a key of a length that an array takes.
+/// Inserts `key`, or returns `Full` if its length or `value` is out of range.
 pub fn insert(array: &mut DoubleArray, key: &[u8], value: u32) -> Result<Inserted, DaFault> {
     if key.is_empty() || key.len() > 65_535 || value >= 2_147_483_647 {
         return Err(DaFault::Full);
@@ -63,7 +63,8 @@ pub fn insert(array: &mut DoubleArray, key: &[u8], value: u32) -> Result<Inserte
     array.insert(key, value)
 }
 
-/// Inserts a key. Whether it had this value before, and where it had one, whether no cells were moved.
+/// Inserts `key`. Returns whether its value before was `old`, and whether a replacement moved no
+/// cells.
 pub fn inserts(
     array: &mut DoubleArray,
     key: &[u8],
@@ -74,25 +75,26 @@ pub fn inserts(
     Ok(inserted.old == old && (old.is_none() || inserted.moved == 0))
 }
 
-/// The value of a key.
+/// Returns the value of `key`.
 pub fn value(array: &DoubleArray, key: &[u8]) -> Option<u32> {
     let _ = array.len();
     get(array, key)
 }
 
-/// The value of a key, where the cells are counted.
+/// Returns the value of `key`, looked up through counted cells.
 fn counted_value(array: &DoubleArray, key: &[u8]) -> Option<u32> {
     let _ = array.len();
     get(&Counting::over(array), key)
 }
 
-/// Whether a key has this value, also where the cells are counted.
+/// Returns whether `key` has the value `expected`, with counted cells too.
 pub fn has_value(array: &DoubleArray, key: &[u8], expected: Option<u32>) -> bool {
     value(array, key) == expected && counted_value(array, key) == expected
 }
 
-/// Whether these are the keys that begin a text, and so many cells are read for them. At each moment the walk tells as many as the cells
-/// themselves.
+/// Returns whether `hits` are the prefixes of `text`, and `reads` cells are read to find them.
+///
+/// After each step, the count of the walk must equal the count of the cells.
 pub fn has_hits(array: &DoubleArray, text: &[u8], hits: &[(usize, u32)], reads: u64) -> bool {
     let _ = array.len();
     let cells = Counting::over(array);

@@ -1,16 +1,17 @@
-//! All pairs of `a` or `b` with a byte, inserted one after another.
+//! The keys `a` and `b` with each second byte, inserted one after another.
 use super::access::{has_hits, have_same_cells, insert, value};
 use double_array::{CellRead, DaFault, DoubleArray, Inserted};
 use std::alloc::{Alloc, Global};
 use std::io::Eprint;
 use std::process::Abort;
 use std::test::Fail;
-use test_words::again;
+use test_support::again;
 
-/// How many keys there are.
+/// The number of keys.
 pub const KEYS: usize = 513;
 
-/// The two bytes of key `n`: `a` with each byte, then `b` with each byte. Key 0 is the first of its bytes alone.
+/// Returns the two bytes of key `n`: `a` with each byte, then `b` with each byte. Key 0 has the
+/// first byte alone.
 fn bytes_of(n: usize) -> [u8; 2] {
     match n {
         0 => [b'a', 0],
@@ -19,7 +20,7 @@ fn bytes_of(n: usize) -> [u8; 2] {
     }
 }
 
-/// Key `n`, of its two bytes.
+/// Returns key `n`, given its two bytes.
 fn key_of(bytes: &[u8; 2], n: usize) -> &[u8] {
     if n == 0 {
         &bytes[..1]
@@ -28,17 +29,17 @@ fn key_of(bytes: &[u8; 2], n: usize) -> &[u8] {
     }
 }
 
-/// Inserts key `n`, with the value `n`.
+/// Inserts key `n` with the value `n`.
 pub fn insert_key(array: &mut DoubleArray, n: usize) -> Result<Inserted, DaFault> {
     insert(array, key_of(&bytes_of(n), n), n.min(KEYS) as u32)
 }
 
-/// The value of key `n`.
+/// Returns the value of key `n`.
 fn value_of_key(array: &DoubleArray, n: usize) -> Option<u32> {
     value(array, key_of(&bytes_of(n), n))
 }
 
-/// Whether the keys below `n` have their values, and those from `n` on have none.
+/// Returns whether the keys below `n` have their values, and the others have none.
 fn has_first_keys(array: &DoubleArray, n: usize) -> bool {
     for i in 0..KEYS {
         let expected = if i < n { Some(i as u32) } else { None };
@@ -49,12 +50,13 @@ fn has_first_keys(array: &DoubleArray, n: usize) -> bool {
     true
 }
 
-/// An empty array. What is refused once is asked again.
+/// Returns an empty array, with one retry.
 pub fn new_array(rt: &(impl Alloc<A = Global> + Eprint)) -> Result<DoubleArray, Fail> {
     Ok(again!(rt, Err(_), DoubleArray::new(rt.alloc()))?)
 }
 
-/// Inserts key `n`, which is new, and moves no more cells than a state has.
+/// Inserts key `n`. Returns whether it is new, and no more cells were moved than a state can have
+/// children.
 fn is_new_key(array: &mut DoubleArray, n: usize) -> Result<bool, DaFault> {
     let inserted = insert_key(array, n)?;
     Ok(inserted.old.is_none() && inserted.moved <= 257)
@@ -72,10 +74,10 @@ fn byte_after_byte(rt: HostRuntime) -> Result<(), Fail> {
     Ok(())
 }
 
-/// Keys of few bytes.
+/// Keys of one or two bytes.
 static FEW_BYTES: [&[u8]; 5] = [b"a", b"a", b"b", b"aa", b"c"];
 
-/// The first key makes the array longer by its length and 600 cells. Then there is room after the last used cell for a key of one byte.
+/// The first key adds cells for its length, and 600 more. They have room for the other keys.
 #[test]
 fn room_is_used_up_first(rt: HostRuntime) -> Result<(), Fail> {
     let mut array = DoubleArray::new(rt.alloc())?;
@@ -90,7 +92,8 @@ fn room_is_used_up_first(rt: HostRuntime) -> Result<(), Fail> {
     Ok(())
 }
 
-/// Whether an array has the cells of another one of its keys; without one, whether it has the keys before key `n`.
+/// Returns whether `array` has the cells of `other`. Without `other`, returns whether it has the
+/// keys below `n`.
 fn is_as_before(array: &DoubleArray, other: Option<&DoubleArray>, n: usize) -> bool {
     match other {
         Some(other) => have_same_cells(array, other),
@@ -98,7 +101,7 @@ fn is_as_before(array: &DoubleArray, other: Option<&DoubleArray>, n: usize) -> b
     }
 }
 
-/// Inserts key `n`. After a refusal the array is as before, and the key is inserted again.
+/// Inserts key `n`, with one retry. An allocation failure must leave the array unchanged.
 pub fn insert_again(
     rt: &(impl Abort + Eprint),
     array: &mut DoubleArray,
@@ -114,7 +117,7 @@ pub fn insert_again(
     Ok(())
 }
 
-/// Inserts all keys in two arrays, each in the first and then in the second.
+/// Inserts all keys in two arrays, each key first in `array` and then in `other`.
 fn insert_in_both(
     rt: &(impl Abort + Eprint),
     array: &mut DoubleArray,
@@ -129,7 +132,8 @@ fn insert_in_both(
     Ok(())
 }
 
-/// A refused growth leaves the cells of an array that was refused none, and asked again it makes those that this one gets.
+/// An allocation failure leaves the cells unchanged, and the retry produces the cells of an array
+/// without failures.
 #[test]
 fn refused_growth_keeps_the_cells(rt: HostRuntime) -> Result<(), Fail> {
     let mut array = new_array(&rt)?;

@@ -1,4 +1,5 @@
-//! Cells by themselves that hold what an array's do and grow as long. A growth is refused where the tests run under `tests/out_of_memory/run.py`.
+//! Plain cells that copy an array's cells and grow to its length. Allocations fail under
+//! `tests/out_of_memory/run.py`.
 use super::access;
 use super::growing::{KEYS, insert_again, new_array};
 use crate::tests::of_cells;
@@ -8,7 +9,7 @@ use std::io::Eprint;
 use std::process::Abort;
 use std::test::Fail;
 
-/// Sets the cells to those of an array.
+/// Sets the cells to those of `array`.
 fn copy_cells(cells: &mut Cells, array: &DoubleArray) {
     for i in 0..array.len() {
         if let Some((base, check)) = access::cell(array, i) {
@@ -17,7 +18,7 @@ fn copy_cells(cells: &mut Cells, array: &DoubleArray) {
     }
 }
 
-/// Whether there are `n` cells, the first of which are those of an array, and the others are free.
+/// Returns whether there are `n` cells: those of `array`, and then free ones.
 fn hold(cells: &Cells, array: &DoubleArray, n: usize) -> bool {
     if cells.len() != n {
         return false;
@@ -31,7 +32,8 @@ fn hold(cells: &Cells, array: &DoubleArray, n: usize) -> bool {
     true
 }
 
-/// Grows cells that hold what an array's do to another length. After a refusal they still do.
+/// Grows cells that equal those of `array` to `length`, with one retry. An allocation failure must
+/// leave them unchanged.
 fn grow_again(
     rt: &(impl Abort + Eprint),
     cells: &mut Cells,
@@ -47,7 +49,8 @@ fn grow_again(
     Ok(())
 }
 
-/// Inserts key `n` in an array, and then in one that was as it. Where the first is longer then, the cells of the second grow to its length.
+/// Inserts key `n` in `array` and then in `before`, whose keys are the same. If `array` grows, the
+/// cells of `before` are first copied to `cells`, which grow to its length.
 fn insert_and_grow(
     rt: &(impl Abort + Eprint),
     array: &mut DoubleArray,

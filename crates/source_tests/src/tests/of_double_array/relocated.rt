@@ -1,7 +1,8 @@
-//! An insertion below a state that is itself among the children that move.
+//! An insertion below a state that is itself one of the children that move.
 //!
-//! The state `a` has the children 1, 2, 3 and its value, the root has `a` and `b`. A byte whose cell, from the base of `a`, is
-//! that of `b`, makes the two of the root move: `a` is one of them.
+//! The state `a` has four children: the bytes 1, 2 and 3, and its value. The root has two: `a` and
+//! `b`. The test inserts a byte below `a` that would use the cell of `b`. The smaller family moves,
+//! which is the root's, and so `a` moves.
 use super::access::{cell, insert, value};
 use double_array::{CellRead, DaFault, DoubleArray};
 use std::alloc::Global;
@@ -10,7 +11,7 @@ use std::test::Fail;
 
 static KEYS: [&[u8]; 5] = [b"a", b"b", b"a\x01", b"a\x02", b"a\x03"];
 
-/// The number in a cell, if it is not negative.
+/// Returns the number in a cell, or `None` if it is negative.
 fn number(found: i32) -> Option<usize> {
     if found >= 0 {
         Some(found as usize)
@@ -19,19 +20,19 @@ fn number(found: i32) -> Option<usize> {
     }
 }
 
-/// The cell to which a state's step on a byte would lead.
+/// Returns the cell that the child of `state` for `byte` needs.
 fn wanted_cell(array: &DoubleArray, state: usize, byte: u8) -> Option<usize> {
     let (base, _) = cell(array, state)?;
     number(base)?.checked_add(byte as usize + 1)
 }
 
-/// The state whose child a cell is.
+/// Returns the state that cell `i` is a child of.
 fn parent_of(array: &DoubleArray, i: usize) -> Option<usize> {
     let (_, check) = cell(array, i)?;
     number(check)
 }
 
-/// The state to which the bytes of a key lead.
+/// Returns the state that the bytes of `key` lead to.
 fn state_of(array: &DoubleArray, key: &[u8]) -> Option<usize> {
     let mut state = 0;
     for byte in key {
@@ -44,7 +45,7 @@ fn state_of(array: &DoubleArray, key: &[u8]) -> Option<usize> {
     Some(state)
 }
 
-/// How many children a state has.
+/// Returns the number of children of `state`.
 fn children_of(array: &DoubleArray, state: usize) -> usize {
     let mut count = 0_usize;
     for i in 0..array.len() {
@@ -55,7 +56,7 @@ fn children_of(array: &DoubleArray, state: usize) -> usize {
     count
 }
 
-/// Whether the cell that a state's step on a byte would lead to is a child of this parent.
+/// Returns whether the cell that `state` needs for `byte` is a child of `parent`.
 fn is_wanted_cell_below(array: &DoubleArray, state: usize, byte: u8, parent: usize) -> bool {
     match wanted_cell(array, state, byte) {
         Some(i) => parent_of(array, i) == Some(parent),
@@ -63,7 +64,7 @@ fn is_wanted_cell_below(array: &DoubleArray, state: usize, byte: u8, parent: usi
     }
 }
 
-/// A byte that the state of a key lacks, and whose wanted cell is a child of the state's parent.
+/// Returns a byte for which the state of `key` needs a cell that a child of its parent has.
 fn byte_of_a_sibling(array: &DoubleArray, key: &[u8]) -> Option<u8> {
     let state = state_of(array, key)?;
     let parent = parent_of(array, state)?;
@@ -78,7 +79,7 @@ fn byte_of_a_sibling(array: &DoubleArray, key: &[u8]) -> Option<u8> {
     None
 }
 
-/// An array of the keys, with their numbers as values.
+/// Returns an array of the keys, with their indices as values.
 fn array_of_keys(alloc: Global) -> Result<DoubleArray, Fail> {
     let mut array = DoubleArray::new(alloc)?;
     for (n, key) in KEYS.iter().enumerate() {
@@ -87,14 +88,14 @@ fn array_of_keys(alloc: Global) -> Result<DoubleArray, Fail> {
     Ok(array)
 }
 
-/// Asks for the values of the keys.
+/// Checks the values of the keys.
 fn expect_keys(rt: &impl Abort, array: &DoubleArray) {
     for (n, key) in KEYS.iter().enumerate() {
         assert!(rt; value(array, key) == Some(n as u32), "{key:?}");
     }
 }
 
-/// Inserts a key below the state `a`, which moves with the root's other child.
+/// Inserts `key` below the state `a`, which must move together with the root's other child.
 fn expect_relocation(rt: &impl Abort, array: &mut DoubleArray, key: &[u8]) -> Result<(), DaFault> {
     let before = state_of(array, b"a");
     let inserted = insert(array, key, 5)?;
@@ -103,7 +104,7 @@ fn expect_relocation(rt: &impl Abort, array: &mut DoubleArray, key: &[u8]) -> Re
     Ok(())
 }
 
-/// Inserts a key whose byte below the state `a` has the cell of `b`.
+/// Inserts a key whose byte below the state `a` needs the cell of `b`.
 fn expect_relocated(rt: &impl Abort, array: &mut DoubleArray) -> Result<(), DaFault> {
     let byte = byte_of_a_sibling(array, b"a");
     assert!(rt; byte.is_some(), "no such byte");

@@ -1,4 +1,4 @@
-//! Records that a lexicon adds behind another one. What is refused memory once is asked again.
+//! Records that a lexicon appends to a list. Reading is retried once after an allocation failure.
 use lex_source::read_lexicon;
 use mj_model::SourceKind::Memory;
 use mj_model::{Record, SourceFault};
@@ -7,25 +7,26 @@ use std::io::Eprint;
 use std::process::Abort;
 use std::test::Fail;
 
-/// A record of left id and right id 1: its line, surface, cost and feature.
+/// A record with left id 1 and right id 1: its line, surface, cost and feature.
 pub type Expected = (u64, &'static str, i16, &'static str);
 
-/// What a lexicon has, the lexicon, how many of its lines are skipped, and its records.
+/// A label, a lexicon, how many of its lines are skipped, and its records.
 pub type Row = (&'static str, &'static str, u64, &'static [Expected]);
 
 /// Lexicons that are accepted.
 #[rattlefmt::skip]
 pub static ACCEPTED: [Row; 7] = [
-    ("lexicon_lines",        "\n,1,1,5,X\nも,1,1,20,Y\r\n",                  1, &[(3, "も", 20, "Y")]),
-    ("a comma",              "\"a,b\",1,1,10,X",                            0, &[(1, "a,b", 10, "X")]),
-    ("a quote",              "\"a\"\"b\",1,1,10,Y",                         0, &[(1, "a\"b", 10, "Y")]),
-    ("quotes in all fields", "a,\"1\",\"1\",\"10\"x,\"Y\",",                0, &[(1, "a", 10, "\"Y\",")]),
-    ("an empty feature",     "a,1,1,10,",                                   0, &[(1, "a", 10, "")]),
-    ("a comma, a quote",     "\"a,b\",1,1,10,X\n\"a\"\"b\",1,1,10,Y\n",     0, &[(1, "a,b", 10, "X"), (2, "a\"b", 10, "Y")]),
-    ("the least cost",       "も,1,1,-32768,助詞,も\n",                         0, &[(1, "も", -32768, "助詞,も")]),
+    ("lexicon_lines",        "\n,1,1,5,X\nも,1,1,20,Y\r\n",  1, &[(3, "も", 20, "Y")]),
+    ("a comma",              "\"a,b\",1,1,10,X",             0, &[(1, "a,b", 10, "X")]),
+    ("a quote",              "\"a\"\"b\",1,1,10,Y",          0, &[(1, "a\"b", 10, "Y")]),
+    ("quotes in all fields", "a,\"1\",\"1\",\"10\"x,\"Y\",", 0, &[(1, "a", 10, "\"Y\",")]),
+    ("an empty feature",     "a,1,1,10,",                    0, &[(1, "a", 10, "")]),
+    ("a comma, a quote",     "\"a,b\",1,1,10,X\n\"a\"\"b\",1,1,10,Y\n", 0,
+        &[(1, "a,b", 10, "X"), (2, "a\"b", 10, "Y")]),
+    ("the least cost",       "も,1,1,-32768,助詞,も\n",      0, &[(1, "も", -32768, "助詞,も")]),
 ];
 
-/// The record of `z,1,1,5,Z`, which stands before those of a lexicon.
+/// The record of `z,1,1,5,Z`, which the list has before a lexicon is read.
 static BEFORE: Expected = (1, "z", 5, "Z");
 
 fn is_record(record: &Record<'_>, expected: &Expected) -> bool {
@@ -36,7 +37,7 @@ fn is_record(record: &Record<'_>, expected: &Expected) -> bool {
         && entry.feature == feature
 }
 
-/// Whether these are the records behind the one that stands before, and there are no others.
+/// Returns whether `records` are `BEFORE` and then `expected`.
 fn stand_behind(records: &[Record<'_>], expected: &[Expected]) -> bool {
     let Some((first, others)) = records.split_first() else {
         return false;
@@ -48,7 +49,7 @@ fn stand_behind(records: &[Record<'_>], expected: &[Expected]) -> bool {
     all
 }
 
-/// Reads a lexicon of this number.
+/// Reads `lexicon`, which has the source number `number`, and appends its records to `out`.
 pub fn read<'a>(
     alloc: Global,
     number: u32,
@@ -58,7 +59,7 @@ pub fn read<'a>(
     read_lexicon(alloc, lexicon, number, out)
 }
 
-/// A list with the record that stands before.
+/// Returns a list with the record `BEFORE`.
 fn one_record(
     rt: &(impl Abort + Alloc<A = Global> + Eprint),
 ) -> Result<Vec<Record<'static>>, Fail> {
@@ -71,7 +72,8 @@ fn one_record(
     Ok(out)
 }
 
-/// Reads a lexicon of this number behind the record that stands before. After a refusal that one alone is there.
+/// Reads a lexicon after `BEFORE`, with one retry. An allocation failure must leave `BEFORE` alone
+/// in the list.
 fn read_behind<'a>(
     rt: &(impl Abort + Alloc<A = Global> + Eprint),
     number: u32,
@@ -87,7 +89,8 @@ fn read_behind<'a>(
     Ok(found)
 }
 
-/// The fault of a lexicon of this number, which leaves the record that stands before alone.
+/// Returns the error of reading a lexicon after `BEFORE`. The error must leave `BEFORE` alone in
+/// the list.
 pub fn fault_behind(
     rt: &(impl Abort + Alloc<A = Global> + Eprint),
     number: u32,
@@ -99,7 +102,7 @@ pub fn fault_behind(
     Ok(read.err())
 }
 
-/// Whether a lexicon has so many skipped lines, and adds these records.
+/// Returns whether a lexicon has `skipped` skipped lines and appends the records `expected`.
 fn adds(
     rt: &(impl Abort + Alloc<A = Global> + Eprint),
     lexicon: &str,
@@ -111,7 +114,7 @@ fn adds(
     Ok(read == Ok(skipped) && stand_behind(&out, expected))
 }
 
-/// Asks for the records of each row's lexicon.
+/// Checks the records of each lexicon.
 pub fn expect_records(
     rt: &(impl Abort + Alloc<A = Global> + Eprint),
     rows: &[Row],

@@ -1,14 +1,14 @@
-//! Lexicons one behind another, in the order of the surfaces.
+//! Entries of several lexicons, sorted by surface.
 use lex_source::{SortedLexicon, SourceLexicon};
 use mj_model::SourceKind::{self, BadNumber, IdOutside, TooFewFields};
 use mj_model::{MatrixSizes, SourceFault};
 use std::alloc::{AllocError, Global};
 use std::test::Fail;
 
-/// The sizes of a connection table with three right ids and two left ids.
+/// The sizes of a connection matrix with three right ids and two left ids.
 const SIZES: MatrixSizes = MatrixSizes { right: 3, left: 2 };
 
-/// Lexicons one behind another.
+/// Pairs of lexicons.
 #[rattlefmt::skip]
 static SORTED: [(&str, [&str; 2], &str); 7] = [
     // (what, two lexicons, the features in the order of the surfaces)
@@ -21,7 +21,7 @@ static SORTED: [(&str, [&str; 2], &str); 7] = [
     ("U+0000 at the end", ["a\0,0,0,1,x\na\0\0,0,0,1,y\n",       "a,0,0,1,z\n"],  "zxy"),
 ];
 
-/// Adds a lexicon of this number to another one.
+/// Adds the lexicon `bytes`, which has the source number `number`.
 pub fn add<'a>(
     alloc: Global,
     lexicon: &mut SourceLexicon<'a>,
@@ -31,7 +31,7 @@ pub fn add<'a>(
     lexicon.add(alloc, bytes, number)
 }
 
-/// Two lexicons one behind another.
+/// Returns the entries of two lexicons.
 fn joined<'a>(alloc: Global, lexicons: &[&'a str; 2]) -> Result<SourceLexicon<'a>, SourceFault> {
     let [first, second] = lexicons;
     let mut lexicon = SourceLexicon::new(alloc, SIZES);
@@ -40,7 +40,7 @@ fn joined<'a>(alloc: Global, lexicons: &[&'a str; 2]) -> Result<SourceLexicon<'a
     Ok(lexicon)
 }
 
-/// The features of entries, one behind another.
+/// Returns the features of the sorted entries, concatenated.
 fn features_of(alloc: Global, sorted: &SortedLexicon<'_>) -> Result<Vec<u8>, AllocError> {
     let mut features = Vec::new(alloc);
     for entry in sorted.records() {
@@ -49,7 +49,8 @@ fn features_of(alloc: Global, sorted: &SortedLexicon<'_>) -> Result<Vec<u8>, All
     Ok(features)
 }
 
-/// Whether the entries of two lexicons have these features of one letter, in the order of the surfaces.
+/// Returns whether the sorted entries of two lexicons have the features `expected`, of one letter
+/// each.
 fn are_sorted(alloc: Global, lexicons: &[&str; 2], expected: &str) -> Result<bool, Fail> {
     let lexicon = joined(alloc, lexicons)?;
     let count = lexicon.len();
@@ -66,10 +67,10 @@ fn sorted_lexicons(rt: HostRuntime) -> Result<(), Fail> {
     Ok(())
 }
 
-/// Lexicons that are refused behind another one.
+/// Lexicons that are rejected when they are added to another one.
 #[rattlefmt::skip]
 static REFUSED: [(&str, &str, u64, SourceKind); 4] = [
-    // (what, a lexicon, the line, the kind)
+    // (what, a lexicon, the line, the kind of the error)
     ("a left id outside",     "b,0,0,1,y\nc,2,0,1,z\n", 2, IdOutside),
     ("a right id outside",    "b,0,3,1,y\n",            1, IdOutside),
     ("a bad line behind one", "b,0,0,1,y\nc,0,0,1\n",   2, TooFewFields),

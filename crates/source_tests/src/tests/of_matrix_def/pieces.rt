@@ -1,17 +1,18 @@
-//! A `matrix.def` that comes in pieces says what it says as one slice.
-use super::refused::rows_of_matrices;
+//! A `matrix.def` that is read in pieces gives the result of reading it as one slice.
+use super::rejected::rows_of_matrices;
 use super::{LISTED, table_of};
 use matrix_def::{Matrix, MatrixReader};
-use mj_model::SourceFault;
+use mj_model::{SourceFault, SourceKind};
 use std::alloc::{Alloc, Global};
 use std::process::Abort;
+use std::test::Fail;
 
-/// The matrix of two pieces.
-fn of_two(alloc: Global, first: &[u8], second: &[u8]) -> Result<Matrix, SourceFault> {
+/// Reads a matrix in two pieces.
+pub fn of_two(alloc: Global, first: &[u8], second: &[u8]) -> Result<Matrix, SourceFault> {
     MatrixReader::new(alloc).read(first)?.read(second)?.finish()
 }
 
-/// The matrix of pieces of one byte.
+/// Reads a matrix in pieces of one byte.
 fn of_bytes(alloc: Global, bytes: &[u8]) -> Result<Matrix, SourceFault> {
     let mut reader = MatrixReader::new(alloc);
     for at in 0..bytes.len() {
@@ -20,10 +21,10 @@ fn of_bytes(alloc: Global, bytes: &[u8]) -> Result<Matrix, SourceFault> {
     reader.finish()
 }
 
-/// The costs of a table, or its fault.
+/// The costs of a matrix, or its error.
 type Said<'a> = Result<&'a [i16], SourceFault>;
 
-/// Whether a table says this.
+/// Returns whether `read` has the costs or the error `expected`.
 fn says(read: Result<Matrix, SourceFault>, expected: Said<'_>) -> bool {
     match (read, expected) {
         (Ok(matrix), Ok(costs)) => matrix.costs() == costs,
@@ -32,7 +33,8 @@ fn says(read: Result<Matrix, SourceFault>, expected: Said<'_>) -> bool {
     }
 }
 
-/// Asks what a table says that is cut in two at each place, that comes byte by byte, and that comes as one slice.
+/// Checks the result of reading `bytes` in two pieces split at each position, byte by byte, and as
+/// one slice.
 fn expect_said(
     rt: &(impl Abort + Alloc<A = Global>),
     what: &str,
@@ -67,4 +69,34 @@ fn faults_of_pieces(rt: HostRuntime) {
     for (what, text, line, kind) in rows_of_matrices() {
         expect_said(&rt, what, text, Err(kind.at(0, *line)));
     }
+}
+
+/// The starts of matrices. A header is rejected before its end if no size starts with its last word,
+/// without the last byte.
+#[rattlefmt::skip]
+static STARTS: [(&str, &[u8], Option<u64>); 13] = [
+    // (what, the bytes that were read, the line of the header that is rejected)
+    ("no bytes",                      b"",                    None),
+    ("zero bytes",                    b"\0\0\0",              Some(1)),
+    ("zero bytes after blank lines",  b"\n \t\r\n\0\0\0",    Some(3)),
+    ("zero bytes after a size",       b"2 \0\0\0",            Some(1)),
+    ("zero bytes in a row",           b"2 2\n\0\0\0",         None),
+    ("a sign",                        b"+",                   None),
+    ("a sign, a digit and a blank",   b"+1 ",                 None),
+    ("a sign and a letter",           b"+x ",                 Some(1)),
+    ("zeros",                         b"00000000000000000000", None),
+    ("the greatest size",             b"65535 65535 ",        None),
+    ("a greater size",                b"1 65536 ",            Some(1)),
+    ("a carriage return",             b"2 2\r",               None),
+    ("a carriage return and a digit", b"2 2\r2",              Some(1)),
+];
+
+#[test]
+fn header_starts(rt: HostRuntime) -> Result<(), Fail> {
+    for (what, start, line) in &STARTS {
+        let fault = MatrixReader::new(rt.alloc()).read(start)?.header_fault();
+        let expected = line.map(|line| SourceKind::BadHeader.at(0, line));
+        assert_eq!(rt; fault, expected, "{what}");
+    }
+    Ok(())
 }

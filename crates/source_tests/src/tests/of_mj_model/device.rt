@@ -1,4 +1,4 @@
-//! A reader and writer that answers each call in the same way.
+//! A reader and writer that returns the same result from each call.
 
 ghost use Rattle.std.specs.Prelude.{◌≤◌, IfOk};
 
@@ -6,10 +6,10 @@ use std::io;
 use std::io::ErrorKind::{self, Interrupted, TimedOut};
 use std::io::{Read, Write};
 
-/// What a device answers, by name.
+/// Results of a device, by name.
 #[rattlefmt::skip]
 pub static ANSWERS: [(&str, Result<usize, ErrorKind>); 5] = [
-    // (what, the answer)
+    // (what, the result)
     ("all of four bytes", Ok(4)),
     ("three of them",     Ok(3)),
     ("none",              Ok(0)),
@@ -17,7 +17,7 @@ pub static ANSWERS: [(&str, Result<usize, ErrorKind>); 5] = [
     ("timed out",         Err(TimedOut)),
 ];
 
-/// An answer with the kind of its error alone.
+/// Returns `answer` with the kind of its error alone.
 pub fn kind_of<T>(answer: io::Result<T>) -> Result<T, ErrorKind> {
     match answer {
         Ok(value) => Ok(value),
@@ -25,7 +25,9 @@ pub fn kind_of<T>(answer: io::Result<T>) -> Result<T, ErrorKind> {
     }
 }
 
-/// Gives or takes so many bytes, or fails in this way. It tells how often it was called, and how many bytes were asked for at last.
+/// Reads or writes up to a fixed number of bytes, or fails with a fixed error.
+///
+/// It records how often it was called, and the length of the last buffer.
 #[derive(Drop)]
 pub struct Device {
     answer: Result<usize, ErrorKind>,
@@ -34,7 +36,7 @@ pub struct Device {
 }
 
 impl Device {
-    /// A device that was not called so far.
+    /// Creates a device that was not called yet.
     pub fn new(answer: Result<usize, ErrorKind>) -> Device {
         Device {
             answer,
@@ -43,7 +45,7 @@ impl Device {
         }
     }
 
-    /// Whether it was called once, and asked for so many bytes.
+    /// Returns whether the device was called once, with a buffer of `count` bytes.
     pub fn was_asked(&self, count: usize) -> bool {
         self.calls == 1 && self.asked == count
     }

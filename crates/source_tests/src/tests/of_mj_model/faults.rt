@@ -1,4 +1,4 @@
-//! Codes, names and texts of faults.
+//! Codes, names and texts of errors.
 use FormatFault::Bad;
 use FormatKind::{BadEscape, BadIndex, BadItem};
 use FormatPart::{Bos, Eos, Node, Unk};
@@ -8,9 +8,9 @@ use mj_model::{
 };
 use std::alloc::Global;
 use std::test::Fail;
-use test_words::{FaultRow, expect_told, is_told};
+use test_support::text::{FaultRow, expect_printed, is_printed_as};
 
-/// Faults of a line of a source, and of the sources together.
+/// Errors in a line of a source, and in the sources as a whole.
 #[rattlefmt::skip]
 static KINDS: [FaultRow<SourceKind>; 22] = [
     // (kind, code, name, text)
@@ -38,10 +38,10 @@ static KINDS: [FaultRow<SourceKind>; 22] = [
     (SourceKind::Memory,             "Memory", "Memory",           "Memory"),
 ];
 
-/// Faults of the bytes of an image.
+/// Errors of an image.
 #[rattlefmt::skip]
 static IMAGES: [FaultRow<ImageFault>; 9] = [
-    // (fault, code, name, text)
+    // (error, code, name, text)
     (ImageFault::Truncated,         "L1",     "Truncated",  "L1 Truncated"),
     (ImageFault::BadMagic,          "L2",     "BadMagic",   "L2 BadMagic"),
     (ImageFault::BadLayout(9),      "L3",     "BadLayout",  "L3 BadLayout 9"),
@@ -53,19 +53,19 @@ static IMAGES: [FaultRow<ImageFault>; 9] = [
     (ImageFault::Memory,            "Memory", "Memory",     "Memory"),
 ];
 
-/// Faults of dictionaries that are laid over one another.
+/// Errors of combining a system dictionary with user dictionaries.
 #[rattlefmt::skip]
 static OVERLAYS: [FaultRow<OverlayFault>; 3] = [
-    // (fault, code, name, text)
+    // (error, code, name, text)
     (OverlayFault::NotSystem,      "O1", "NotSystem",  "O1 NotSystem"),
     (OverlayFault::NotUser(0),     "O2", "NotUser",    "O2 NotUser 0"),
     (OverlayFault::OtherSizes(12), "O3", "OtherSizes", "O3 OtherSizes 12"),
 ];
 
-/// Faults of formats.
+/// Errors of formats.
 #[rattlefmt::skip]
 static FORMATS: [FaultRow<FormatFault>; 6] = [
-    // (fault, code, name, text)
+    // (error, code, name, text)
     (Bad { part: Node, at: 1,      kind: BadEscape }, "P1",     "BadEscape", "P1 BadEscape 1"),
     (Bad { part: Node, at: 16,     kind: BadItem },   "P2",     "BadItem",   "P2 BadItem 16"),
     (Bad { part: Unk,  at: 0,      kind: BadIndex },  "P3",     "BadIndex",  "P3 BadIndex 0"),
@@ -74,47 +74,47 @@ static FORMATS: [FaultRow<FormatFault>; 6] = [
     (FormatFault::Memory,                             "Memory", "Memory",    "Memory"),
 ];
 
-/// The fault of the first line of a lexicon with an open quote.
+/// The error in the first line of a lexicon, for a quote without an end.
 const OPEN_QUOTE: SourceFault = SourceFault {
     file: 3,
     line: 1,
     kind: SourceKind::TooFewFields,
 };
 
-/// Faults of a run over a text.
+/// Errors of a run over a text.
 #[rattlefmt::skip]
 static RUNS: [FaultRow<RunFault>; 8] = [
-    // (fault, code, name, text)
-    (RunFault::Source(OPEN_QUOTE),        "S2",     "TooFewFields", "file 3, line 1: S2 TooFewFields"),
-    (RunFault::UserSource(1, OPEN_QUOTE), "S2",     "TooFewFields", "file 3, line 1: S2 TooFewFields"),
-    (RunFault::Read(2),                   "G1",     "Read",         "line 2: G1 Read"),
-    (RunFault::Write(120),                "G2",     "Write",        "G2 Write 120"),
-    (RunFault::NotUtf8(3),                "G3",     "NotUtf8",      "line 3: G3 NotUtf8"),
-    (RunFault::TooLong(1),                "G4",     "TooLong",      "line 1: G4 TooLong"),
-    (RunFault::InputTooLong(2),           "G5",     "InputTooLong", "line 2: G5 InputTooLong"),
-    (RunFault::Memory(5),                 "Memory", "Memory",       "Memory"),
+    // (error, code, name, text)
+    (RunFault::Source(OPEN_QUOTE), "S2",     "TooFewFields", "file 3, line 1: S2 TooFewFields"),
+    (RunFault::UserSource(1, OPEN_QUOTE), "S2", "TooFewFields", "file 3, line 1: S2 TooFewFields"),
+    (RunFault::Read(2),            "G1",     "Read",         "line 2: G1 Read"),
+    (RunFault::Write(120),         "G2",     "Write",        "G2 Write 120"),
+    (RunFault::NotUtf8(3),         "G3",     "NotUtf8",      "line 3: G3 NotUtf8"),
+    (RunFault::TooLong(1),         "G4",     "TooLong",      "line 1: G4 TooLong"),
+    (RunFault::InputTooLong(2),    "G5",     "InputTooLong", "line 2: G5 InputTooLong"),
+    (RunFault::Memory(5),          "Memory", "Memory",       "Memory"),
 ];
 
 #[test]
 fn codes_names_and_texts(rt: HostRuntime) -> Result<(), Fail> {
-    expect_told(rt.alloc(), &KINDS)?;
-    expect_told(rt.alloc(), &IMAGES)?;
-    expect_told(rt.alloc(), &OVERLAYS)?;
-    expect_told(rt.alloc(), &FORMATS)?;
-    expect_told(rt.alloc(), &RUNS)
+    expect_printed(rt.alloc(), &KINDS)?;
+    expect_printed(rt.alloc(), &IMAGES)?;
+    expect_printed(rt.alloc(), &OVERLAYS)?;
+    expect_printed(rt.alloc(), &FORMATS)?;
+    expect_printed(rt.alloc(), &RUNS)
 }
 
-/// Places of faults.
+/// Positions of errors in sources.
 #[rattlefmt::skip]
 static PLACES: [(u32, u64, &str); 4] = [
-    // (file, line, how the text begins)
+    // (file, line, the start of the text)
     (0,       1,        "file 0, line 1: "),
     (2,       0,        "file 2, line 0: "),
     (3,       u64::MAX, "file 3, line 18446744073709551615: "),
     (NO_FILE, 0,        "file 4294967295, line 0: "),
 ];
 
-/// Whether a fault is told with its place before it.
+/// Returns whether an error is printed after its position.
 fn is_told_at(
     alloc: Global,
     row: &FaultRow<SourceKind>,
@@ -123,7 +123,7 @@ fn is_told_at(
     let (kind, code, name, text) = *row;
     let (file, line, begin) = *place;
     let text = format!(in alloc; "{begin}{text}")?;
-    is_told(alloc, kind.at(file, line), code, name, text.as_str())
+    is_printed_as(alloc, kind.at(file, line), code, name, text.as_str())
 }
 
 #[test]

@@ -16,7 +16,7 @@ static READS: [(
     u64,
     u64,
 ); 8] = [
-    // (what, answer of the device, room, answer, bytes, ends, failures)
+    // (what, result of the device, length of the buffer, result, bytes, ends, failures)
     ("a whole read",        Ok(4),            4, Ok(4),            b"zzzz", 0, 0),
     ("a short read",        Ok(3),            4, Ok(3),            b"zzz.", 0, 0),
     ("the end",             Ok(0),            4, Ok(0),            b"....", 1, 0),
@@ -27,7 +27,8 @@ static READS: [(
     ("fails and has no room", Err(TimedOut),  0, Err(TimedOut),    b"....", 0, 1),
 ];
 
-/// Whether a device that is read into so many bytes has this answer, and leaves these bytes and these counts.
+/// Returns whether a counted read into `room` bytes returns `answer`, and leaves `bytes` and
+/// `counts`.
 fn is_read(
     given: Result<usize, ErrorKind>,
     room: usize,
@@ -54,7 +55,7 @@ fn reads(rt: HostRuntime) {
     }
 }
 
-/// Whether a device that is read without counts has its own answer, and none is counted.
+/// Returns whether a plain read returns the device's result and counts nothing.
 fn is_plain_read(given: Result<usize, ErrorKind>) -> bool {
     let mut plain = Counted::new(Device::new(given));
     let got = kind_of(plain.read(&mut [0; 4]));

@@ -15,7 +15,7 @@ static WRITES: [(
     u64,
     bool,
 ); 8] = [
-    // (what, answer of the device, bytes, answer, failures, whether a flush is due)
+    // (what, result of the device, bytes, result, failures, whether a flush is due)
     ("a whole write",             Ok(4),            "zzzz", Ok(4),            0, true),
     ("a short write",             Ok(3),            "zzzz", Ok(3),            0, true),
     ("nothing is taken",          Ok(0),            "zzzz", Ok(0),            1, false),
@@ -26,7 +26,8 @@ static WRITES: [(
     ("fails and nothing to write", Err(TimedOut),   "",     Err(TimedOut),    1, false),
 ];
 
-/// Whether a device to which these bytes are written has this answer, so many failures, and a flush that is due.
+/// Returns whether a counted write of `bytes` returns `answer`, counts `failures`, and leaves a
+/// flush due if `due`.
 fn is_written(
     given: Result<usize, ErrorKind>,
     bytes: &str,
@@ -52,14 +53,14 @@ fn writes(rt: HostRuntime) {
 /// Counted flushes.
 #[rattlefmt::skip]
 static FLUSHES: [(&str, Result<usize, ErrorKind>, Result<(), ErrorKind>, u64); 4] = [
-    // (what, answer of the device, answer, failures)
+    // (what, result of the device, result, failures)
     ("flushed",       Ok(4),            Ok(()),           0),
     ("interrupted",   Err(Interrupted), Err(Interrupted), 1),
     ("timed out",     Err(TimedOut),    Err(TimedOut),    1),
     ("out of memory", Err(OutOfMemory), Err(OutOfMemory), 1),
 ];
 
-/// Whether a device that is flushed has this answer, and so many failures.
+/// Returns whether a counted flush returns `answer` and counts `failures`.
 fn is_flushed(
     given: Result<usize, ErrorKind>,
     answer: Result<(), ErrorKind>,
@@ -79,12 +80,12 @@ fn flushes(rt: HostRuntime) {
     }
 }
 
-/// Whether nothing is counted.
+/// Returns whether nothing is counted.
 fn has_no_counts(plain: &Counted<Device>) -> bool {
     (plain.failures(), plain.flushes(), plain.unflushed()) == (0, 0, false)
 }
 
-/// Whether a device to which four bytes are written without counts has its own answer.
+/// Returns whether a plain write returns the device's result and counts nothing.
 fn is_plain_write(given: Result<usize, ErrorKind>) -> bool {
     let mut plain = Counted::new(Device::new(given));
     let got = kind_of(plain.write(b"zzzz"));
@@ -98,7 +99,7 @@ fn plain_writes(rt: HostRuntime) {
     }
 }
 
-/// Whether a device that is flushed without counts has its own answer.
+/// Returns whether a plain flush returns the device's result and counts nothing.
 fn is_plain_flush(given: Result<usize, ErrorKind>) -> bool {
     let mut plain = Counted::new(Device::new(given));
     let got = kind_of(plain.flush());

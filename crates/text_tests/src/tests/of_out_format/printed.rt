@@ -6,20 +6,20 @@ use out_format::{Format, print};
 use std::alloc::Global;
 use std::process::Abort;
 use std::test::Fail;
-use test_samples::{Outcome, chars_with, letters, run_in, system_dict};
+use test_support::samples::{Outcome, chars_with, letters, run_in, system_dict};
 use word_lookup::Dictionaries;
 
-/// What the sample's sources print of a text.
+/// Segments `text` with the sample's sources.
 fn printed(alloc: Global, format: &Format, text: &str) -> Outcome {
     run_in(alloc, format, &sample(), &[], text.as_bytes())
 }
 
-/// The costs of each word.
+/// Prints the costs of each word.
 const COSTS: &str = "%m/%f[0]/%c/%pn/%pc\\s";
 
 const COSTS_OF_SUMOMO: &str = "すもも/名詞/100/110/110 もも/名詞/30/37/147 152\n";
 
-/// Where each word stands, with its blanks.
+/// Prints the position of each word, with its blanks.
 const PLACES: &str = "%M|%ps|%pe|%pl|%pL|%pS;";
 
 const SPACED: &str = " すもも  もも \n";
@@ -30,7 +30,7 @@ const MARK: &str = "0x30FC KATAKANA HIRAGANA\n";
 
 const IDS: &str = "1,1,10;1,1,7;EOS\n";
 
-/// A line of `char.def`, a node, unk, bos and eos.
+/// A line of `char.def`, and the texts of node, unk, bos and eos.
 type Texts = (
     &'static str,
     &'static str,
@@ -39,10 +39,10 @@ type Texts = (
     &'static str,
 );
 
-/// A name, a line of `char.def` with a format's texts, a text and its output.
+/// A label, a line of `char.def` with the texts of a format, a text and its output.
 type Row = (&'static str, Texts, &'static str, &'static str);
 
-/// A run over a text, in a format and with a line of `char.def`.
+/// Runs over `text` in a format, with a further line of `char.def`.
 fn run_of(alloc: Global, (line, node, unk, bos, eos): Texts, text: &str) -> Result<Outcome, Fail> {
     let format = Format::parse(alloc, node, unk, bos, eos)?;
     let chars = chars_with(alloc, line)?;

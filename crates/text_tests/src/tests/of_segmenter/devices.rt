@@ -1,10 +1,11 @@
-//! Readers and writers over memory that give and take little at a time, and fail when told to.
+//! Readers and writers in memory that transfer few bytes at a time, and fail on demand.
 
 use std::alloc::Global;
 use std::io;
 use std::io::{ErrorKind, Read, Write};
 
-/// Gives at most `step` bytes a read, and fails in this way at the read of this number, counted from 1.
+/// A reader that returns at most `step` bytes in each read. Read number `fails_at`, counted from 1,
+/// fails with `failure`.
 #[derive(Drop)]
 pub struct StepReader<'a> {
     pub bytes: &'a [u8],
@@ -28,7 +29,9 @@ impl Read for StepReader<'_> {
     }
 }
 
-/// Takes at most `step` bytes a write and `room` in all, and then fails in this way, or takes nothing where it is `silent`.
+/// A writer that accepts at most `step` bytes in each write and `room` in total.
+///
+/// After that it fails with `failure`, or accepts 0 bytes if it is `silent`.
 #[derive(Drop)]
 pub struct StepWriter {
     pub taken: Vec<u8>,
@@ -37,9 +40,9 @@ pub struct StepWriter {
     pub silent: bool,
     pub flush_fails: bool,
     pub failure: ErrorKind,
-    /// How many flushes were asked for.
+    /// The number of flushes.
     pub flushes: u64,
-    /// How many bytes the longest write had.
+    /// The length of the longest write in bytes.
     pub longest: usize,
 }
 
@@ -64,7 +67,7 @@ impl Write for StepWriter {
     }
 }
 
-/// Fails at this read, if any.
+/// Returns a reader that fails at read number `fails_at`, if there is one.
 pub fn reader(bytes: &[u8], step: usize, fails_at: Option<u64>) -> StepReader<'_> {
     StepReader {
         bytes,
@@ -75,7 +78,7 @@ pub fn reader(bytes: &[u8], step: usize, fails_at: Option<u64>) -> StepReader<'_
     }
 }
 
-/// Has this much room.
+/// Returns a writer that accepts `room` bytes in total.
 pub fn writer(alloc: Global, step: usize, room: usize) -> StepWriter {
     StepWriter {
         taken: Vec::new(alloc),

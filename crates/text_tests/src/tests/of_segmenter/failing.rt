@@ -1,4 +1,4 @@
-//! Runs over devices that fail, give little at a time, or give long lines.
+//! Runs over readers and writers that fail or transfer few bytes at a time, and over long lines.
 
 use super::devices::{StepReader, StepWriter, reader, writer};
 use mj_model::{Counted, GROUPING_DEFAULT, RunFault, SENTENCE_MAX, TextIn, TextOut, sample};
@@ -15,7 +15,7 @@ const SUMOMO_OUTPUT: &str = "すもも\t名詞,すもも\nもも\t名詞,もも\
 
 const MO_OUTPUT: &str = "も\t助詞,も\nEOS\n";
 
-/// How a run ended, and what was counted of its calls.
+/// The result of a run, and the counts of its calls.
 #[derive(Drop)]
 struct Ended {
     answer: Result<u64, RunFault>,
@@ -25,7 +25,7 @@ struct Ended {
     flushes: u64,
 }
 
-/// A run of the sample's sources over devices, in the default format.
+/// Runs over `input` with the sample's sources, in the default format.
 fn run(alloc: Global, input: StepReader<'_>, out: &mut StepWriter) -> Result<Ended, AllocError> {
     let format = Format::default_of(alloc)?;
     let mut input = Counted::new(input);
@@ -48,13 +48,16 @@ fn run(alloc: Global, input: StepReader<'_>, out: &mut StepWriter) -> Result<End
     })
 }
 
-/// A writer that takes so many bytes a write and has so much room, may take nothing in silence, may fail to flush, and fails in this way.
+/// A writer: the most bytes of a write, its room, whether it then accepts 0 bytes, whether a flush
+/// fails, and the kind of its error.
 type Writes = (usize, usize, bool, bool, ErrorKind);
 
-/// A name, a writer, the answer of a run to it, how many bytes it takes, and how many flushes it is asked for.
+/// A label, a writer, the result of the run, the bytes that are accepted, and the number of
+/// flushes.
 type WriterRow = (&'static str, Writes, Result<u64, RunFault>, usize, u64);
 
-/// Whether a run ended as its row says, without a failed read, and what it wrote is the beginning of the output.
+/// Returns whether a run ended as `row` expects without a failed read, and wrote a prefix of the
+/// output.
 fn is_ended(got: &Ended, out: &StepWriter, row: &WriterRow) -> bool {
     let (_what, _writes, answer, taken, flushes) = *row;
     let failed_writes = if answer.is_ok() { 0 } else { 1 };
@@ -64,7 +67,7 @@ fn is_ended(got: &Ended, out: &StepWriter, row: &WriterRow) -> bool {
     got.answer == answer && are_failures && are_flushes && is_taken
 }
 
-/// Asks how a run of the sample line ends.
+/// Checks how a run over the sample's line ends.
 fn expect_writer(rt: &(impl Abort + Alloc<A = Global>), row: &WriterRow) -> Result<(), Fail> {
     let (what, (step, room, silent, flush_fails, failure), ..) = *row;
     let mut out = StepWriter {
@@ -78,19 +81,27 @@ fn expect_writer(rt: &(impl Abort + Alloc<A = Global>), row: &WriterRow) -> Resu
     Ok(())
 }
 
-/// No bound.
+/// No limit.
 const ALL: usize = usize::MAX;
 
 #[rattlefmt::skip]
 static FAILING_WRITERS: [WriterRow; 7] = [
-    // (what, (write step, room, silent, flush fails, how), answer, bytes taken, flushes)
-    ("takes 5 bytes",        (ALL, 5,   false, false, ErrorKind::Other),     Err(RunFault::Write(5)),  5,  0),
-    ("takes nothing",        (ALL, 0,   true,  false, ErrorKind::Other),     Err(RunFault::Write(0)),  0,  0),
-    ("takes 51 bytes of 52", (1,   51,  false, false, ErrorKind::Other),     Err(RunFault::Write(51)), 51, 0),
-    ("interrupted",          (1,   7, false, false, ErrorKind::Interrupted), Err(RunFault::Write(7)),  7,  0),
-    ("flush fails",          (ALL, ALL, false, true, ErrorKind::Other),      Err(RunFault::Write(52)), 52, 1),
-    ("flush is interrupted", (1, ALL, false, true, ErrorKind::Interrupted),  Err(RunFault::Write(52)), 52, 1),
-    ("a byte at a time",     (1,   ALL, false, false, ErrorKind::Other),     Ok(1),                    52, 1),
+    // (what, (most bytes of a write, room, accepts 0 bytes, flush fails, error), result, bytes
+    // accepted, flushes)
+    ("takes 5 bytes", (ALL, 5, false, false, ErrorKind::Other),
+        Err(RunFault::Write(5)), 5, 0),
+    ("takes nothing", (ALL, 0, true, false, ErrorKind::Other),
+        Err(RunFault::Write(0)), 0, 0),
+    ("takes 51 bytes of 52", (1, 51, false, false, ErrorKind::Other),
+        Err(RunFault::Write(51)), 51, 0),
+    ("interrupted", (1, 7, false, false, ErrorKind::Interrupted),
+        Err(RunFault::Write(7)), 7, 0),
+    ("flush fails", (ALL, ALL, false, true, ErrorKind::Other),
+        Err(RunFault::Write(52)), 52, 1),
+    ("flush is interrupted", (1, ALL, false, true, ErrorKind::Interrupted),
+        Err(RunFault::Write(52)), 52, 1),
+    ("a byte at a time", (1, ALL, false, false, ErrorKind::Other),
+        Ok(1), 52, 1),
 ];
 
 #[test]
@@ -101,7 +112,8 @@ fn failing_writers(rt: HostRuntime) -> Result<(), Fail> {
     Ok(())
 }
 
-/// Whether a run of the sample line ended at the failure of its read of this number, with nothing else failed.
+/// Returns whether a run over the sample's line ended at read number `read`, with no other failed
+/// call.
 fn is_failed_read(got: &Ended, out: &StepWriter, read: u64) -> bool {
     let (line, output) = if read < 17 {
         (1, "")
@@ -114,7 +126,7 @@ fn is_failed_read(got: &Ended, out: &StepWriter, read: u64) -> bool {
     got.answer == Err(RunFault::Read(line)) && are_reads && are_writes && is_taken
 }
 
-/// Asks how a run of the sample line ends whose read of this number fails.
+/// Checks how a run over the sample's line ends if read number `read` fails.
 fn expect_failed_read(
     rt: &(impl Abort + Alloc<A = Global>),
     read: u64,
@@ -132,7 +144,7 @@ fn expect_failed_read(
 
 #[test]
 fn failing_readers(rt: HostRuntime) -> Result<(), Fail> {
-    // The sample line has 16 bytes, the last of them its LF.
+    // The sample's line has 16 bytes. The last one is its line feed.
     for read in 1..=17 {
         expect_failed_read(&rt, read, ErrorKind::Other)?;
         expect_failed_read(&rt, read, ErrorKind::Interrupted)?;
@@ -140,7 +152,9 @@ fn failing_readers(rt: HostRuntime) -> Result<(), Fail> {
     Ok(())
 }
 
-/// Whether a run of a text whose line 2 is at fault, or whose read of this number fails, ends so behind the output of line 1.
+/// Returns whether a run ends with `fault` after the output of line 1.
+///
+/// Line 2 of `text` is invalid, or read number `fails_at` fails.
 fn is_fault_behind_line_1(
     alloc: Global,
     text: &[u8],
@@ -155,7 +169,7 @@ fn is_fault_behind_line_1(
 
 #[rattlefmt::skip]
 static FAULTS_BEHIND_LINE_1: [(&str, &[u8], Option<u64>, RunFault); 2] = [
-    // (what, text, failing read, answer)
+    // (what, text, failing read, result)
     ("read fails", b"\xe3\x82\x82\n\xe3\x81\x99", Some(2), RunFault::Read(2)),
     ("not UTF-8",  b"\xe3\x82\x82\n\xff\n",       None,    RunFault::NotUtf8(2)),
 ];
@@ -169,7 +183,8 @@ fn faults_behind_line_1(rt: HostRuntime) -> Result<(), Fail> {
     Ok(())
 }
 
-/// How a run of three lines ends that come so many bytes a read, with so much room for what they print, and after how many reads.
+/// Runs over three lines, with `step` bytes in each read and a writer with room for `room` bytes.
+/// Returns the result and the number of reads.
 fn answer_and_reads(
     alloc: Global,
     step: usize,
@@ -183,7 +198,7 @@ fn answer_and_reads(
 
 #[rattlefmt::skip]
 static READS: [(&str, usize, usize, Result<u64, RunFault>, u64); 4] = [
-    // (what, bytes a read, room of the writer, answer, reads)
+    // (what, bytes of a read, room of the writer, result, reads)
     ("a line a read",    4,  0,          Err(RunFault::Write(0)),  1),
     ("half a line",      2,  0,          Err(RunFault::Write(0)),  2),
     ("the second line",  4,  20,         Err(RunFault::Write(20)), 2),
@@ -199,7 +214,8 @@ fn worked_through_before_the_next_read(rt: HostRuntime) -> Result<(), Fail> {
     Ok(())
 }
 
-/// Letters `z`, the first of them replaced by a byte where one is given, and then LF or nothing.
+/// Returns `length` letters `z`, of which the first is replaced by `first` if there is one, and a
+/// line feed if `ends`.
 fn long_line(
     alloc: Global,
     first: Option<u8>,
@@ -216,7 +232,8 @@ fn long_line(
     Ok(line)
 }
 
-/// A name, the first byte of a line, its bytes with it, whether it ends with LF, a failing read, the reads and the answer.
+/// A label, the first byte of a line, its length, whether a line feed follows, a failing read, the
+/// number of reads, and the result.
 type LineRow = (
     &'static str,
     Option<u8>,
@@ -227,25 +244,25 @@ type LineRow = (
     Result<u64, RunFault>,
 );
 
-/// How many tabs there are: each word prints one.
+/// Returns the number of tabs. Each word prints one.
 fn tabs(bytes: &[u8]) -> usize {
     bytes.iter().filter(|byte| **byte == b'\t').count()
 }
 
-/// Whether a run of a long line ends as its row says, with all of its words or none.
+/// Returns whether a run over a long line ends as `row` expects, with all of its words or none.
 fn is_long_line(alloc: Global, row: &LineRow) -> Result<bool, AllocError> {
     let (_what, first, length, ends, fails_at, reads, answer) = *row;
     let line = long_line(alloc, first, length, ends)?;
     let mut out = writer(alloc, usize::MAX, usize::MAX);
     let got = run(alloc, reader(&line, usize::MAX, fails_at), &mut out)?;
-    // All letters but 25 are words of their own.
+    // All letters except the last 25 are single words.
     let words = if answer.is_ok() { SENTENCE_MAX - 24 } else { 0 };
     Ok(got.answer == answer && got.reads == reads && tabs(&out.taken) == words)
 }
 
 #[rattlefmt::skip]
 static LONG_LINES: [LineRow; 5] = [
-    // (what, first byte, bytes with it, LF, failing read, reads, answer)
+    // (what, first byte, length, line feed, failing read, reads, result)
     ("a byte too long", None, SENTENCE_MAX + 1, false, Some(18), 17, Err(RunFault::TooLong(1))),
     ("far too long", None, SENTENCE_MAX + 200_000, true, None, 17, Err(RunFault::TooLong(1))),
     ("bad and too long", Some(0xff), SENTENCE_MAX + 1, true, None, 17, Err(RunFault::TooLong(1))),

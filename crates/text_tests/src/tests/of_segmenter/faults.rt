@@ -1,12 +1,12 @@
-//! Codes, names and texts of faults.
+//! Codes, names and texts of errors.
 
 use mj_model::{RunFault, SourceFault, SourceKind};
 use std::test::Fail;
-use test_words::{FaultRow, expect_told};
+use test_support::text::{FaultRow, expect_printed};
 
 #[rattlefmt::skip]
 static FAULT_WORDS: [FaultRow<RunFault>; 4] = [
-    // (fault, code, name, text)
+    // (error, code, name, text)
     (RunFault::Source(SourceFault { file: 3, line: 1, kind: SourceKind::TooFewFields }),
         "S2", "TooFewFields", "file 3, line 1: S2 TooFewFields"),
     (RunFault::Write(120), "G2", "Write", "G2 Write 120"),
@@ -16,5 +16,5 @@ static FAULT_WORDS: [FaultRow<RunFault>; 4] = [
 
 #[test]
 fn fault_words(rt: HostRuntime) -> Result<(), Fail> {
-    expect_told(rt.alloc(), &FAULT_WORDS)
+    expect_printed(rt.alloc(), &FAULT_WORDS)
 }

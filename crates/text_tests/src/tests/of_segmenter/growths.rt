@@ -1,19 +1,19 @@
-//! Runs whose growths of memory `tests/out_of_memory/run.py` counts and compares.
+//! Runs whose allocations `tests/out_of_memory/run.py` counts and compares.
 
 use mj_model::sample;
 use out_format::Format;
 use std::alloc::Global;
 use std::process::Abort;
 use std::test::Fail;
-use test_samples::{letters, overlay, segment_text, system_dict};
+use test_support::samples::{letters, overlay, segment_text, system_dict};
 
-/// How many letters a line has.
+/// The number of letters of a line.
 const LETTERS: usize = 2_000;
 
-/// What a line prints.
+/// The output of a line.
 const PRINTED: &str = "1989840\n";
 
-/// So many lines of letters, at most two.
+/// Returns `lines` lines of letters. There are at most two.
 fn lines_of_letters(alloc: Global, lines: usize) -> Result<Vec<u8>, Fail> {
     let letters = letters(alloc, LETTERS)?;
     let mut text = Vec::with_capacity(alloc, 2 * LETTERS + 2)?;
@@ -24,8 +24,8 @@ fn lines_of_letters(alloc: Global, lines: usize) -> Result<Vec<u8>, Fail> {
     Ok(text)
 }
 
-/// Cuts so many lines of letters, at most two.
-fn cut(rt: &(impl Abort + Alloc<A = Global>), lines: usize) -> Result<(), Fail> {
+/// Segments `lines` lines of letters. There are at most two.
+fn segment(rt: &(impl Abort + Alloc<A = Global>), lines: usize) -> Result<(), Fail> {
     let format = Format::parse(rt.alloc(), "", None, "", "%pc\\n")?;
     let dict = system_dict(rt.alloc(), &sample())?;
     let dictionaries = overlay(&dict, &[])?;
@@ -41,10 +41,10 @@ fn cut(rt: &(impl Abort + Alloc<A = Global>), lines: usize) -> Result<(), Fail> 
 
 #[test]
 fn one_line(rt: HostRuntime) -> Result<(), Fail> {
-    cut(&rt, 1)
+    segment(&rt, 1)
 }
 
 #[test]
 fn two_lines(rt: HostRuntime) -> Result<(), Fail> {
-    cut(&rt, 2)
+    segment(&rt, 2)
 }

@@ -1,4 +1,4 @@
-//! Output that is longer than what is held before it is written.
+//! Output that exceeds the buffer in which it is collected before it is written.
 
 use super::devices::{StepWriter, writer as device};
 use mj_model::{Counted, RunFault, sample};
@@ -7,20 +7,20 @@ use segmenter::segment;
 use std::alloc::{AllocError, Global};
 use std::process::Abort;
 use std::test::Fail;
-use test_samples::{letters, overlay, system_dict};
+use test_support::samples::{letters, overlay, system_dict};
 use word_lookup::Dictionaries;
 
-/// Where more bytes than these wait behind a line, they are written.
+/// The output is written after a line if more than this many bytes are buffered.
 const OUTPUT_MAX: usize = 1 << 16;
 
-/// The format in which an empty line prints so many letters.
+/// Returns the format in which an empty line prints `count` letters.
 fn letters_format(alloc: Global, count: usize) -> Result<Format, Fail> {
     let mut eos = letters(alloc, count)?;
     eos.push_str("\\n")?;
     Ok(Format::parse(alloc, "", None, "", eos.as_str())?)
 }
 
-/// What a cut of so many empty lines answers, and the device that it writes to.
+/// Segments `lines` empty lines. Returns the result and the writer.
 fn written(
     alloc: Global,
     dictionaries: &Dictionaries<'_>,
@@ -35,10 +35,11 @@ fn written(
     Ok((answer, out))
 }
 
-/// How many empty lines there are, how many letters each prints, the bytes in all, and those of the longest write.
+/// The number of empty lines, the letters that each prints, all bytes, and the bytes of the longest
+/// write.
 type Pieces = (usize, usize, usize, usize);
 
-/// Asks for what is written of empty lines.
+/// Checks the writes for empty lines.
 fn expect_pieces(
     rt: &(impl Abort + Alloc<A = Global>),
     dictionaries: &Dictionaries<'_>,
@@ -55,7 +56,7 @@ fn expect_pieces(
 
 #[rattlefmt::skip]
 static PIECES: [(&str, Pieces); 8] = [
-    // (what, (empty lines, letters that each prints, bytes in all, bytes of the longest write))
+    // (what, (empty lines, letters that each prints, all bytes, bytes of the longest write))
     ("a few lines",             (5,     1_000,      5_005,      5_005)),
     ("all that is held",        (65,    1_000,      65_065,     65_065)),
     ("1 MiB in short lines",    (1_047, 1_000,      1_048_047,  66_066)),

@@ -1,4 +1,4 @@
-//! Dictionaries of images of layouts 1, 2 and 3: they say the same.
+//! Dictionaries loaded from images of layouts 1, 2 and 3. They give the same output.
 
 use dict_image::Dict;
 use mj_model::sample;
@@ -6,7 +6,7 @@ use out_format::{Format, FormatFault};
 use std::alloc::Global;
 use std::process::Abort;
 use std::test::Fail;
-use test_samples::{SURFACES, loaded_in, overlay, segment_text, system_in, user_image};
+use test_support::samples::{SURFACES, loaded_in, overlay, segment_text, system_in, user_image};
 
 /// The sample's lexicon.
 const LEXICON: &str = "\
@@ -23,13 +23,13 @@ const WITH_BLANK: &str = "\
 も ,1,1,500,Z
 ";
 
-/// Two words that cost as much as the one of both letters.
+/// Two words, and a word of both letters with the same total cost.
 const TIE: &str = "a,1,1,10,X\nb,1,1,10,X\nab,1,1,27,X\n";
 
 /// A surface with two entries.
 const TWICE: &str = "a,1,1,10,X\na,1,1,10,Y\n";
 
-/// What is written of a text.
+/// Returns the output for `text`.
 fn written(
     alloc: Global,
     (system, users): (&Dict, &[Dict]),
@@ -42,7 +42,7 @@ fn written(
     Ok(written)
 }
 
-/// The default format, wakati, and one with the costs of each word and of its path.
+/// The default format, wakati, and a format with the costs of each word and of its path.
 #[derive(Drop)]
 struct Formats {
     words: Format,
@@ -60,7 +60,7 @@ impl Formats {
     }
 }
 
-/// The same dictionary in layouts 1, 2 and 3.
+/// Returns one dictionary, loaded from images of layouts 1, 2 and 3.
 fn in_each_layout(
     alloc: Global,
     line: &str,
@@ -74,7 +74,7 @@ fn in_each_layout(
     Ok(dicts)
 }
 
-/// Whether each of these dictionaries writes this of a text.
+/// Returns whether each of `dicts` writes `wanted` for `text`.
 fn all_write(
     alloc: Global,
     dicts: &[Dict],
@@ -90,7 +90,7 @@ fn all_write(
     Ok(true)
 }
 
-/// Whether these dictionaries write the same of a text.
+/// Returns whether all of `dicts` write the same output for `text`.
 fn write_the_same(
     alloc: Global,
     dicts: &[Dict],
@@ -106,10 +106,11 @@ fn write_the_same(
     }
 }
 
-/// A name, a text, and its output in the default format.
+/// A label, a text, and its output in the default format.
 type TextRow<'a> = (&'a str, &'a str, &'a str);
 
-/// Asks that dictionaries write the same of a text in each format, which in the default format is the output.
+/// Checks that `dicts` write the same output for a text in each format, and the expected one in the
+/// default format.
 fn expect_the_same(
     rt: &(impl Abort + Alloc<A = Global>),
     dicts: &[Dict],
@@ -137,10 +138,11 @@ const LETTERS_25: &str = "zzzzzzzzzzzzzzzzzzzzzzzzz";
 
 const LETTERS_26: &str = "zzzzzzzzzzzzzzzzzzzzzzzzzz";
 
-/// A line of `char.def`, a lexicon, its surfaces, and a text with its name and its output in the default format.
+/// A line of `char.def`, a lexicon, its surfaces, and a text with its label and its output in the
+/// default format.
 type DictRow<'a> = (&'a str, &'a str, &'a [&'a str], TextRow<'a>);
 
-/// Asks that the dictionaries of each row write the same of its text in each layout.
+/// Checks that the dictionaries of each test case write the same output in all layouts.
 fn expect_the_same_of_all(
     rt: &(impl Abort + Alloc<A = Global>),
     rows: &[DictRow<'_>],
@@ -215,7 +217,8 @@ fn texts_of_further_lexicons(rt: HostRuntime) -> Result<(), Fail> {
     expect_the_same_of_all(&rt, &FURTHER_LEXICONS)
 }
 
-/// What a dictionary of the sample with a further line of `char.def`, in a layout, writes of two characters.
+/// Segments two characters with the sample's dictionary in layout `layout`, which has `line`
+/// appended to `char.def`. Returns the output.
 fn written_beyond(
     alloc: Global,
     format: &Format,
@@ -230,7 +233,7 @@ const NUL: &str = "0x0000 KANJI\n";
 
 #[rattlefmt::skip]
 static BEYOND_THE_BASIC_PLANE: [(&str, u32, &str, &str); 5] = [
-    // (what, layout, a line of char.def, the words and the total)
+    // (what, layout, a line of char.def, the words and the total cost)
     ("U+0000 not mapped, layout 1",           1, "",  "𠮷 野 2022\n"),
     ("U+0000 not mapped, layout 2",           2, "",  "𠮷 野 2022\n"),
     ("the entry of U+0000, layout 1",         1, NUL, "𠮷野 1015\n"),
@@ -248,13 +251,14 @@ fn beyond_the_basic_plane(rt: HostRuntime) -> Result<(), Fail> {
     Ok(())
 }
 
-/// The dictionary of a user's line, in a layout.
+/// Returns a user dictionary of one line, in layout `layout`.
 fn user_in(alloc: Global, system: &Dict, layout: u32) -> Result<Dict, Fail> {
     let image = user_image(alloc, system, "もも,1,1,1,名詞,ユーザ\n")?;
     loaded_in(alloc, layout, &image, &["もも"])
 }
 
-/// What dictionaries of a system and a user, each in a layout, write of the sample's line.
+/// Segments the sample's line with a system dictionary and a user dictionary in the given layouts.
+/// Returns the output.
 fn written_with_a_user(
     alloc: Global,
     format: &Format,
@@ -268,7 +272,7 @@ fn written_with_a_user(
 
 #[rattlefmt::skip]
 static LAYOUTS: [(u32, u32); 9] = [
-    // (layout of the system, layout of the user)
+    // (layout of the system image, layout of the user image)
     (1, 1),
     (1, 2),
     (1, 3),

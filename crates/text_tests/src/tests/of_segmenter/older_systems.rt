@@ -1,11 +1,11 @@
-//! User dictionaries compiled for dictionaries of images of layouts 1 and 2.
+//! User dictionaries compiled for system dictionaries in layouts 1 and 2.
 
 use dict_compile::{CompileUserFault, compile_user};
 use mj_model::{Sources, sample};
 use std::alloc::Global;
 use std::process::Abort;
 use std::test::Fail;
-use test_samples::{SURFACES, image, in_layout, loaded, loaded_in, user_image};
+use test_support::samples::{SURFACES, image, in_layout, loaded, loaded_in, user_image};
 
 /// The user image of layout 1 of the line `もも,1,1,1,X`, for 2 right ids and 2 left ids.
 const FIRST_LAYOUT: [u8; 137] =
@@ -14,7 +14,8 @@ const FIRST_LAYOUT: [u8; 137] =
     \x08\0\0\0\0\0\0\0\x08\0\0\0\0\0\0\0\x10\0\0\0\0\0\0\0\x01\0\0\0\0\0\0\0\
     \x06\0\xe3\x82\x82\xe3\x82\x82\0\0\0\0\x01\0\0\0\x01\0\x01\0\x01\0\0\0\0\0\0\0\x01\0\0\0X";
 
-/// The image of a user's lexicon for the dictionary of sources in a layout.
+/// Returns the image of the user lexicon `lexicon` for the dictionary of `sources` in layout
+/// `layout`.
 fn image_for(
     alloc: Global,
     sources: &Sources<'_>,
@@ -26,7 +27,7 @@ fn image_for(
     user_image(alloc, &system, lexicon)
 }
 
-/// Asks that the user image for the sample's dictionary with a matrix, in an older layout, is that for the newest one.
+/// Checks that the user image does not depend on the layout of the system image.
 fn expect_same_user(
     rt: &(impl Abort + Alloc<A = Global>),
     matrix: &[u8],
@@ -53,16 +54,16 @@ fn users_for_older_systems(rt: HostRuntime) -> Result<(), Fail> {
     Ok(())
 }
 
-/// The line of the image.
+/// The line of `FIRST_LAYOUT`.
 const LINE: &str = "もも,1,1,1,X\n";
 
-/// The image of the line in layout 1.
+/// Returns the image of `LINE` in layout 1.
 fn first_layout(alloc: Global) -> Result<Vec<u8>, Fail> {
     let compiled = image_for(alloc, &sample(), 3, LINE)?;
     Ok(in_layout(alloc, &compiled, 1, &["もも"])?)
 }
 
-/// What a compilation for a user's image, as if it were a system's, is refused for.
+/// Returns the error of compiling a user dictionary for the user image `image`.
 fn refused_for(alloc: Global, image: Vec<u8>) -> Result<Option<CompileUserFault>, Fail> {
     let user = loaded(alloc, image)?;
     Ok(compile_user(alloc, &user, &[LINE.as_bytes()]).err())

@@ -1,4 +1,4 @@
-//! Sources that are refused.
+//! Sources that are rejected.
 
 use mj_model::SourceKind::{
     self, BadHeader, BadNumber, BadRange, BadRow, IdOutside, MissingCategory, NoSpace,
@@ -8,16 +8,16 @@ use mj_model::{RunFault, SourceFault, Sources, sample};
 use std::alloc::Global;
 use std::string::String;
 use std::test::Fail;
-use test_samples::run;
+use test_support::samples::run;
 
-/// Whether a run over the sources is refused with this fault, with nothing read or written.
+/// Returns whether a run over `sources` fails with `fault`, before it reads or writes.
 fn is_refused(alloc: Global, sources: &Sources<'_>, fault: SourceFault) -> bool {
     run(alloc, sources, &[], "も\n".as_bytes()).is_refusal(RunFault::Source(fault))
 }
 
 #[rattlefmt::skip]
 static MATRIX_AND_LEXICON: [(&str, &str, &str, SourceKind, u32, u64); 10] = [
-    // (what, matrix, lexicon, fault by file and line)
+    // (what, matrix, lexicon, kind, file and line of the error)
     ("asymmetric_matrix", "2 3\n0 2 100\n1 0 9\n", "も,1,2,20,X\n", IdOutside, 3, 1),
     ("open quote", "2 2\n", "\"ab,1,1,10,X\n", TooFewFields, 3, 1),
     ("cost too low", "2 2\n", "も,1,1,-32769,X\n", BadNumber, 3, 1),
@@ -43,7 +43,7 @@ fn matrix_and_lexicon(rt: HostRuntime) {
     }
 }
 
-/// The lines of a text but those that begin so.
+/// Returns the lines of `text` that don't start with `begins`.
 fn without(alloc: Global, text: &[u8], begins: &str) -> Result<String, Fail> {
     let mut kept = String::new(alloc);
     for line in std::str::from_utf8(text)?.lines() {
@@ -55,8 +55,8 @@ fn without(alloc: Global, text: &[u8], begins: &str) -> Result<String, Fail> {
     Ok(kept)
 }
 
-/// A name, lines that are left out of `char.def` and of `unk.def` by what they begin with, a further line of each, and the fault, by its kind,
-/// file and line.
+/// A label, the prefixes of the lines left out of `char.def` and of `unk.def`, a further line of
+/// each, and the error by its kind, file and line.
 type LinesRow = (
     &'static str,
     &'static str,
@@ -66,7 +66,7 @@ type LinesRow = (
     (SourceKind, u32, u64),
 );
 
-/// Whether a run over the sample with changed lines is refused.
+/// Returns whether a run over the sample with changed lines fails with the error of `row`.
 fn lines_are_refused(alloc: Global, row: &LinesRow) -> Result<bool, Fail> {
     let (_what, no_chars, no_unk, chars, unk, (kind, file, line)) = row;
     let mut char_lines = without(alloc, sample().chars, no_chars)?;
@@ -87,7 +87,7 @@ const IDS: &str = "KANJI,2,1,1000,X\nSPACE,1,2,1000,X\n";
 
 #[rattlefmt::skip]
 static LINES: [LinesRow; 8] = [
-    // (what, left out of char.def, of unk.def, a further line of each, fault)
+    // (what, prefixes left out of char.def, of unk.def, a further line of each, error)
     ("no SPACE",           "SPACE", ALL,     "", "", (NoSpace, 1, 0)),
     ("missing_categories", ALL,     "KANJI", "", "", (MissingCategory(4), 2, 0)),
     ("both",               "SPACE", "KANJI", "", "", (NoSpace, 1, 0)),
@@ -102,8 +102,8 @@ static LINES: [LinesRow; 8] = [
 fn categories_and_unknown_entries(rt: HostRuntime) -> Result<(), Fail> {
     for row in &LINES {
         let what = row.0;
-        let refused = lines_are_refused(rt.alloc(), row)?;
-        assert!(rt; refused, "{what}");
+        let rejected = lines_are_refused(rt.alloc(), row)?;
+        assert!(rt; rejected, "{what}");
     }
     Ok(())
 }

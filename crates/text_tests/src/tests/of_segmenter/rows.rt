@@ -1,12 +1,12 @@
-//! Texts with their output, over the sample and over other sources.
+//! Texts and their output, over the sample and over other sources.
 
 use mj_model::{RunFault, SourceFault, SourceKind, Sources, sample};
 use std::alloc::{AllocError, Global};
 use std::process::Abort;
 use std::test::Fail;
-use test_samples::{chars_with, run};
+use test_support::samples::{chars_with, run};
 
-/// Asks for the answer and the output of a run over these sources.
+/// Checks the result and the output of a run over `sources`.
 fn expect_output(
     rt: &(impl Abort + Alloc<A = Global>),
     what: &str,
@@ -28,7 +28,7 @@ const WITH_X: &str = "すもも\t名詞,すもも\nも\t助詞,も\nx\t未知\nE
 
 #[rattlefmt::skip]
 static SAMPLE_LINES: [(&str, &str, Result<u64, RunFault>, &str); 11] = [
-    // (what, text, answer, output)
+    // (what, text, result, output)
     ("sumomo", "すもももも\n", Ok(1), "すもも\t名詞,すもも\nもも\t名詞,もも\nEOS\n"),
     ("empty input", "", Ok(0), ""),
     ("empty line", "\n", Ok(1), "EOS\n"),
@@ -71,7 +71,7 @@ fn lexicons(rt: HostRuntime) {
     }
 }
 
-/// Asks for the output of a run over the sample with a further line of `char.def`.
+/// Checks the output of a run over the sample with `further` appended to `char.def`.
 fn expect_output_of_chars(
     rt: &(impl Abort + Alloc<A = Global>),
     what: &str,

@@ -7,13 +7,13 @@ use out_format::Format;
 use std::alloc::Global;
 use std::process::Abort;
 use std::test::Fail;
-use test_samples::{loaded, overlay, run, run_in, segment_text, system_dict};
+use test_support::samples::{loaded, overlay, run, run_in, segment_text, system_dict};
 
 const USER: &str = "もも,1,1,1,名詞,ユーザ\n";
 
 const MOMO: &str = "もも\n";
 
-/// Asks that a run with users prints this in a format.
+/// Checks the output of a run with user dictionaries in `format`.
 fn expect_output(
     rt: &(impl Abort + Alloc<A = Global>),
     what: &str,
@@ -58,7 +58,8 @@ fn costs_of_users_words(rt: HostRuntime) -> Result<(), Fail> {
     Ok(())
 }
 
-/// Asks that a run with users is refused for a fault of this user's lexicons, on line 1, with nothing read or written.
+/// Checks that a run fails with an error in line 1 of a lexicon of user dictionary `user`, before
+/// it reads or writes.
 fn expect_refusal(
     rt: &(impl Abort + Alloc<A = Global>),
     what: &str,
@@ -115,7 +116,7 @@ fn sources_before_users(rt: HostRuntime) {
     assert!(rt; outcome.is_refusal(RunFault::Source(fault)));
 }
 
-/// Asks that a run over images prints this in a format.
+/// Checks the output of a run over loaded dictionaries in `format`.
 fn expect_segmented(
     rt: &(impl Abort + Alloc<A = Global>),
     what: &str,
@@ -132,7 +133,7 @@ fn expect_segmented(
     Ok(())
 }
 
-/// The user dictionary of one entry.
+/// Returns a user dictionary of one entry.
 fn one_user(rt: &(impl Abort + Alloc<A = Global>), system: &Dict) -> Result<[Dict; 1], Fail> {
     let compiled = compile_user(rt.alloc(), system, &[USER.as_bytes()])?;
     assert_eq!(rt; compiled.entries, 1);

@@ -1,8 +1,8 @@
 use Rattle.std.proofs.Common.{arith, rules, ◌≡◌, ℕ, length, ap, sym, ◌∙◌}
 use Rattle.std.specs.Prelude.{chars}
 use Rattle.std.specs.Str.Iter.{chars_rest}
-use Rattle.paths.specs.Run.{bytes_of}
-use Rattle.image_bytes.specs.ImageMeaning.{image_tables}
+use Rattle.mj_model.specs.Run.{bytes_of}
+use Rattle.image_format.specs.ImageMeaning.{image_tables}
 use Rattle.word_lookup.proofs.RunLemmas.{end, left_behind, stop, taken, turn}
 use Rattle.word_lookup.proofs.run.run_up_to.Goals as goal
 
@@ -23,7 +23,7 @@ pub returns-then-not-shares-clause-characters : goal.returns-then-not-shares-cla
 returns-then-not-shares-clause-characters c =
     let v = c.loop-characters.invariant in
     let one = taken c.args.text.now (chars_rest c.loop-characters.left) _ c.loop-characters.characters c.in-Some.c c.utf8.text v.at c.in-Some.ensures.steps.0 in
-    let all = stop (image_tables c.args.system.now).info c.args.entry c.loop-characters.last c.info_near-next.result (chars c.args.text.now) _ c.loop-characters.characters c.in-Some.c one.chars_are v.goes_on c.info_near-next.ensures.info
+    let all = stop (image_tables c.args.system.now).info c.args.entry c.loop-characters.last c.info_with_hint-next.result (chars c.args.text.now) _ c.loop-characters.characters c.in-Some.c one.chars_are v.goes_on c.info_with_hint-next.ensures.info
     (sym c.shares.ensures ∙ c.if-not-shares.true) in
     omega (arith, all, c.loop-characters-test.true)
 
@@ -40,7 +40,7 @@ loop-characters-preserved c =
     let one = taken c.args.text.now (chars_rest c.loop-characters.left) _ c.loop-characters.characters c.in-Some.c c.utf8.text v.at c.in-Some.ensures.steps.0 in
     record {
       at = one.at;
-      goes_on = turn (image_tables c.args.system.now).info c.args.entry c.loop-characters.last c.info_near-next.result (chars c.args.text.now) _ c.loop-characters.characters c.in-Some.c one.chars_are v.goes_on c.info_near-next.ensures.info
+      goes_on = turn (image_tables c.args.system.now).info c.args.entry c.loop-characters.last c.info_with_hint-next.result (chars c.args.text.now) _ c.loop-characters.characters c.in-Some.c one.chars_are v.goes_on c.info_with_hint-next.ensures.info
           (sym c.shares.ensures ∙ c.if-not-shares.false);
     }
 

@@ -1,5 +1,5 @@
 use Rattle.std.proofs.Common.{◌≡◌, ℕ, List, subst, ◌∙◌}
-use Rattle.image_bytes.specs.ImageBytes.{header_of, section}
+use Rattle.image_format.specs.ImageBytes.{header_of, section}
 use Rattle.dict_image.specs.Categories.{listed_categories}
 use Rattle.dict_image.proofs.dict.Dict.categories.Goals as goal
 

@@ -1,5 +1,5 @@
 use Rattle.std.proofs.Common.{sym, ◌∙◌, ap}
-use Rattle.image_bytes.specs.declared.header.Header.{Header}
+use Rattle.image_format.specs.declared.header.Header.{Header}
 use Rattle.dict_image.proofs.CategoryLemmas.{count_of_image}
 use Rattle.dict_image.proofs.dict.Dict.category_count.Goals as goal
 

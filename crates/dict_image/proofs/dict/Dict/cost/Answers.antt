@@ -1,7 +1,7 @@
 use Rattle.std.proofs.Common.{rules, ◌≡◌, ◌<◌, ℕ, Some, length, slice_get, ap, ◌∙◌, subst, sym}
 use Rattle.std.proofs.lemmas.Option.{same_Some, slice_get_within}
-use Rattle.image_bytes.specs.ImageBytes.{header_of}
-use Rattle.image_bytes.specs.ImageMeaning.{image_cost}
+use Rattle.image_format.specs.ImageBytes.{header_of}
+use Rattle.image_format.specs.ImageMeaning.{image_cost}
 use Rattle.dict_image.proofs.FittingLemmas.{pair_within}
 use Rattle.dict_image.proofs.dict.Dict.cost.Goals as goal
 

@@ -1,6 +1,6 @@
 use Rattle.std.proofs.Common.{ℕ, List, sym, ap, ◌∙◌}
-use Rattle.image_bytes.specs.ImageBytes.{header_of}
-use Rattle.image_bytes.specs.ImageMeaning.{lexicon_sections, entries_under, image_tables}
+use Rattle.image_format.specs.ImageBytes.{header_of}
+use Rattle.image_format.specs.ImageMeaning.{lexicon_sections, entries_under, image_tables}
 use Rattle.dict_image.proofs.FormedLemmas.{keys_are}
 use Rattle.dict_image.proofs.LexiconLemmas.{entries_of_value, entries_of_none}
 use Rattle.dict_image.proofs.dict.Dict.entries.Goals as goal

@@ -1,6 +1,6 @@
 use Rattle.std.proofs.Common.{suc, ◌∙◌, arith}
-use Rattle.image_bytes.specs.ImageBytes.{header_of, section}
-use Rattle.image_bytes.specs.ImageSections.{index_at}
+use Rattle.image_format.specs.ImageBytes.{header_of, section}
+use Rattle.image_format.specs.ImageSections.{index_at}
 use Rattle.dict_image.proofs.FormedLemmas.{groups_are, tokens_are}
 use Rattle.dict_image.proofs.TokenLemmas.{index_within, list_rises, list_within, same_list}
 use Rattle.dict_image.proofs.dict.Dict.group.Goals as goal

@@ -1,6 +1,6 @@
 use Rattle.std.proofs.Common.{◌≡◌, ℕ, List, subst}
-use Rattle.image_bytes.specs.ImageBytes.{header_of}
-use Rattle.image_check.specs.Outlines.{IsImage}
+use Rattle.image_format.specs.ImageBytes.{header_of}
+use Rattle.dict_image.specs.Validation.Outlines.{IsImage}
 use Rattle.dict_image.proofs.dict.Dict.header.Goals as goal
 
 pub returns-clause-numbers : goal.returns-clause-numbers

@@ -1,8 +1,8 @@
 use Rattle.std.proofs.Common.{ℕ, List, ap, ◌∙◌}
-use Rattle.cell_walk.specs.CellMap.{prefixes_of}
-use Rattle.image_bytes.specs.ImageBytes.{header_of, section}
-use Rattle.image_bytes.specs.ImageSections.{stored_cells}
-use Rattle.image_bytes.specs.Layouts.{key_form}
+use Rattle.mj_model.specs.CellMap.{prefixes_of}
+use Rattle.image_format.specs.ImageBytes.{header_of, section}
+use Rattle.image_format.specs.ImageSections.{stored_cells}
+use Rattle.image_format.specs.Layouts.{key_form}
 use Rattle.dict_image.proofs.FormedLemmas.{cells_are}
 use Rattle.dict_image.proofs.KeyTableLemmas.{hits_of_cells, hits_of_list}
 use Rattle.dict_image.proofs.dict.Dict.hits.Goals as goal

@@ -1,6 +1,6 @@
 use Rattle.std.proofs.Common.{ℕ, List, subst}
-use Rattle.image_bytes.specs.ImageBytes.{header_of, kind_of, section}
-use Rattle.image_bytes.specs.Layouts.{info_form}
+use Rattle.image_format.specs.ImageBytes.{header_of, kind_of, section}
+use Rattle.image_format.specs.Layouts.{info_form}
 use Rattle.dict_image.specs.InfoTables.{IsInfoTable}
 use Rattle.dict_image.proofs.dict.Dict.info_table.Goals as goal
 

@@ -1,11 +1,11 @@
 use Rattle.std.proofs.Common.{◌≡◌, false, ap, ◌∙◌, refl}
-use Rattle.image_bytes.specs.declared.header.Header.{Header}
-use Rattle.image_bytes.specs.declared.kind.DictKind.{DictKind}
-use Rattle.image_bytes.specs.declared.kind.DictKind.TheVariants as dict
-use Rattle.image_bytes.specs.DictKinds.{kind_meant}
-use Rattle.image_bytes.specs.ImageBytes.{kind_of}
+use Rattle.image_format.specs.declared.header.Header.{Header}
+use Rattle.image_format.specs.declared.kind.DictKind.{DictKind}
+use Rattle.image_format.specs.declared.kind.DictKind.TheVariants as dict
+use Rattle.image_format.specs.DictKinds.{kind_meant}
+use Rattle.image_format.specs.ImageBytes.{kind_of}
 use Rattle.mj_model.specs.Overlays.{is_user}
-use Rattle.image_check.proofs.OutlineLemmas.{is_formed}
+use Rattle.dict_image.proofs.OutlineLemmas.{is_formed}
 use Rattle.dict_image.proofs.dict.Dict.is_user.Goals as goal
 
 pub returns-in-User-clause-formed : goal.returns-in-User-clause-formed

@@ -1,8 +1,8 @@
 use Rattle.std.proofs.Common.{ℕ, List, ap, length, subst, sym, ◌∙◌, arith}
-use Rattle.image_bytes.specs.ImageBytes.{header_of, section}
-use Rattle.image_bytes.specs.Layouts.{key_form}
-use Rattle.image_check.specs.declared.outline.Keys.TheVariants as keys
-use Rattle.image_check.specs.KeyPlaces.{AreKeysOf, AreStarts}
+use Rattle.image_format.specs.ImageBytes.{header_of, section}
+use Rattle.image_format.specs.Layouts.{key_form}
+use Rattle.dict_image.specs.declared.validation.outline.Keys.TheVariants as keys
+use Rattle.dict_image.specs.Validation.KeyPlaces.{AreKeysOf, AreStarts}
 use Rattle.dict_image.proofs.KeyTableLemmas.{few_groups}
 use Rattle.dict_image.proofs.dict.Dict.key_table.Goals as goal
 

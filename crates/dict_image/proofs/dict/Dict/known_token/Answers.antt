@@ -1,6 +1,6 @@
 use Rattle.std.proofs.Common.{arith, ap}
-use Rattle.image_bytes.specs.declared.header.Header.{Header}
-use Rattle.image_bytes.specs.ImageBytes.{header_of}
+use Rattle.image_format.specs.declared.header.Header.{Header}
+use Rattle.image_format.specs.ImageBytes.{header_of}
 use Rattle.dict_image.proofs.NumberedTokens.{lexicon_numbered, numbered_found, numbered_none}
 use Rattle.dict_image.proofs.dict.Dict.known_token.Goals as goal
 

@@ -1,5 +1,5 @@
 use Rattle.std.proofs.Common.{subst}
-use Rattle.dict_image.specs.Held.{AreLookupTables}
+use Rattle.dict_image.specs.LookupState.{AreLookupTables}
 use Rattle.dict_image.proofs.dict.Dict.over.Goals as goal
 
 pub invariant_of-result : goal.invariant_of-result

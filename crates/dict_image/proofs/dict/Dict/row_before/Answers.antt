@@ -1,6 +1,6 @@
 use Rattle.std.proofs.Common.{◌≡◌, ℕ, ℤ, ◌+◌, ◌*◌, List, slice_get, slice_range, subst, sym, ap, ◌∙◌}
-use Rattle.image_bytes.specs.ImageBytes.{header_of, kind_of, section}
-use Rattle.image_bytes.specs.declared.header.Header.{Header}
+use Rattle.image_format.specs.ImageBytes.{header_of, kind_of, section}
+use Rattle.image_format.specs.declared.header.Header.{Header}
 use Rattle.dict_image.specs.CostRows.{AreStoredBefore}
 use Rattle.dict_image.specs.CostTables.{IsCostTable, cost_before}
 use Rattle.dict_image.proofs.CostRowLemmas.{stored_here}
@@ -37,8 +37,8 @@ returns-in-InRows-clause-costs c =
     ∙ ap (λ (l : ℕ). slice_range rows (l * width) (l * width + width)) c.from.ensures in
     λ right less. ap (λ (xs : List ℤ). slice_get xs right) row ∙ in_row cost width sizes.left rows c.args.left right are c.requires.left less
 
-pub returns-in-Near-clause-costs : goal.returns-in-Near-clause-costs
-returns-in-Near-clause-costs c =
+pub returns-in-Cache-clause-costs : goal.returns-in-Cache-clause-costs
+returns-in-Cache-clause-costs c =
     let bytes = c.args.self.now in
     let here = c.section_row.ensures in
     subst (AreStoredBefore (header_of bytes).sizes (section bytes 1) c.args.left) (sym c.row.ensures.costs) (stored_here bytes c.args.left c.section_row.result here.costs here.sizes here.left)

@@ -1,8 +1,8 @@
 use Rattle.std.proofs.Common.{ℕ, List, ap, ◌∙◌, subst}
-use Rattle.image_bytes.specs.ImageBytes.{section}
-use Rattle.image_bytes.specs.Sections.{number_of}
-use Rattle.image_check.specs.Outlines.{IsImage}
-use Rattle.image_check.proofs.OutlineLemmas.{sections_within}
+use Rattle.image_format.specs.ImageBytes.{section}
+use Rattle.image_format.specs.Sections.{number_of}
+use Rattle.dict_image.specs.Validation.Outlines.{IsImage}
+use Rattle.dict_image.proofs.OutlineLemmas.{sections_within}
 use Rattle.dict_image.proofs.dict.Dict.section.Goals as goal
 
 pub section_bytes-requires-clause-ends : goal.section_bytes-requires-clause-ends

@@ -1,5 +1,5 @@
 use Rattle.std.proofs.Common.{ℕ, List, subst, sym}
-use Rattle.dict_image.specs.Held.{IsCostTableIn}
+use Rattle.dict_image.specs.LookupState.{IsCostTableIn}
 use Rattle.dict_image.proofs.dict.Dict.set_cost_table.Goals as goal
 
 pub invariant_of-self : goal.invariant_of-self

@@ -1,5 +1,5 @@
 use Rattle.std.proofs.Common.{◌∙◌, refl, arith}
-use Rattle.image_bytes.specs.ImageBytes.{header_of, all_tokens}
+use Rattle.image_format.specs.ImageBytes.{header_of, all_tokens}
 use Rattle.dict_image.proofs.FormedLemmas.{tokens_are}
 use Rattle.dict_image.proofs.dict.Dict.token.Goals as goal
 

@@ -1,8 +1,8 @@
 use Rattle.std.proofs.Common.{◌≡◌, ◌<◌, suc, Bool, cond, List, [], length, sym, ap, ◌∙◌, subst, arith}
 use Rattle.std.proofs.lemmas.Bool.{lt-ltb}
-use Rattle.image_bytes.specs.ImageBytes.{header_of, section, all_tokens}
-use Rattle.image_bytes.specs.ImageMeaning.{tokens_in}
-use Rattle.image_bytes.specs.ImageSections.{index_at}
+use Rattle.image_format.specs.ImageBytes.{header_of, section, all_tokens}
+use Rattle.image_format.specs.ImageMeaning.{tokens_in}
+use Rattle.image_format.specs.ImageSections.{index_at}
 use Rattle.mj_model.specs.Tables.{Token}
 use Rattle.dict_image.proofs.CategoryLemmas.{below_count}
 use Rattle.dict_image.proofs.FormedLemmas.{system_of_categories, tokens_are, unknown_are}

@@ -1,6 +1,6 @@
 use Rattle.std.proofs.Common.{arith, ap}
-use Rattle.image_bytes.specs.declared.header.Header.{Header}
-use Rattle.image_bytes.specs.ImageBytes.{header_of}
+use Rattle.image_format.specs.declared.header.Header.{Header}
+use Rattle.image_format.specs.ImageBytes.{header_of}
 use Rattle.dict_image.proofs.NumberedTokens.{unknown_numbered, numbered_found, numbered_none}
 use Rattle.dict_image.proofs.dict.Dict.unknown_token.Goals as goal
 use Rattle.dict_image.proofs.dict.Dict.unknown_token.Goals.{else-known-i-via-then-known-i+else-i-known, else-known-i-via-else-known-i}

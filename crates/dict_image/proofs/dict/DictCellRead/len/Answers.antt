@@ -1,6 +1,6 @@
 use Rattle.std.proofs.Common.{ℕ, List, length, ap, sym, ◌∙◌, ◌/◌}
-use Rattle.image_bytes.specs.ImageBytes.{section}
-use Rattle.image_bytes.proofs.CellLemmas.{cell_count}
+use Rattle.image_format.specs.ImageBytes.{section}
+use Rattle.image_format.proofs.CellLemmas.{cell_count}
 use Rattle.dict_image.proofs.dict.DictCellRead.len.Goals as goal
 
 pub returns : goal.returns

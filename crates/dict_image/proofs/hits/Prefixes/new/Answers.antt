@@ -1,7 +1,7 @@
 use Rattle.std.proofs.Common.{◌<◌, ℕ, map, sym, ap, ◌∙◌, subst}
 use Rattle.std.specs.List.{AllByRecursion}
-use Rattle.image_bytes.specs.ImageBytes.{header_of}
-use Rattle.image_bytes.specs.ImageMeaning.{lexicon_sections}
+use Rattle.image_format.specs.ImageBytes.{header_of}
+use Rattle.image_format.specs.ImageMeaning.{lexicon_sections}
 use Rattle.dict_image.specs.Prefixes.{prefix_in}
 use Rattle.dict_image.proofs.FormedLemmas.{keys_are, groups_are}
 use Rattle.dict_image.proofs.PrefixLemmas.{hits_below, prefixes_are}

@@ -1,6 +1,6 @@
 use Rattle.std.proofs.Common.{ℕ, ◌≡◌, ◌≢◌, ◌+◌, ◌-◌, ◌/◌, ◌<◌, List, subst, ap, ◌∙◌, arith}
 use Rattle.std.specs.declared.cmp.Ordering.TheVariants.{Less}
-use Rattle.image_bytes.specs.OlderSections.{IsListedKey, listed_key}
+use Rattle.image_format.specs.OlderSections.{IsListedKey, listed_key}
 use Rattle.dict_image.specs.KeyLists.{KeyList}
 use Rattle.dict_image.proofs.ListedOrder.{below_up_to, is_less, not_less, order}
 use Rattle.dict_image.proofs.listed_keys.ListedKeys.first_not_below.Goals as goal
@@ -40,5 +40,5 @@ loop-low-preserved c =
       order = omega (arith, test);
       within = omega (arith, test, within);
       below = c.loop-low.invariant.below;
-      others = λ i up behind less. other (below_up_to list.count list.bytes are text middle i up behind less);
+      others = λ i up following less. other (below_up_to list.count list.bytes are text middle i up following less);
     }

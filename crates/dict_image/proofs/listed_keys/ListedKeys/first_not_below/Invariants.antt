@@ -2,7 +2,7 @@ use Rattle.std.proofs.Common.{◌≡◌, ◌≢◌, ℕ, ◌-◌, ◌<◌, ◌�
 use Rattle.std.specs.Cmp.Lexicographic.{slice_cmp}
 use Rattle.std.specs.Ordering.{nat_cmp}
 use Rattle.std.specs.declared.cmp.Ordering.TheVariants.{Less}
-use Rattle.image_bytes.specs.OlderSections.{listed_key}
+use Rattle.image_format.specs.OlderSections.{listed_key}
 use Rattle.dict_image.proofs.listed_keys.ListedKeys.first_not_below.Given as goal
 
 abbrev pub invariant-loop-low : goal.invariant-loop-low

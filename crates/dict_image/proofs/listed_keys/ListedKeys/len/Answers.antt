@@ -1,5 +1,5 @@
 use Rattle.std.proofs.Common.{ℕ, ◌<◌, subst}
-use Rattle.image_bytes.specs.OlderSections.{IsListedKey}
+use Rattle.image_format.specs.OlderSections.{IsListedKey}
 use Rattle.dict_image.specs.KeyLists.{KeyList}
 use Rattle.dict_image.proofs.listed_keys.ListedKeys.len.Goals as goal
 

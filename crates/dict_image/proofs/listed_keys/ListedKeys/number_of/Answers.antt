@@ -1,9 +1,9 @@
 use Rattle.std.proofs.Common.{ℕ, ◌≡◌, ◌<◌, subst, sym, ap, ◌∙◌, arith}
 use Rattle.std.proofs.lemmas.Slice.Eq.{bytes_eq-Decides}
-use Rattle.image_bytes.specs.OlderSections.{IsListedKey, listed_key}
+use Rattle.image_format.specs.OlderSections.{IsListedKey, listed_key}
 use Rattle.dict_image.specs.KeyLists.{KeyList}
 use Rattle.dict_image.proofs.ListedOrder.{number_here, number_nowhere}
-use Rattle.image_check.proofs.ValueLemmas.{not_both}
+use Rattle.dict_image.proofs.ValueLemmas.{not_both}
 use Rattle.dict_image.proofs.listed_keys.ListedKeys.number_of.Goals as goal
 use Rattle.dict_image.proofs.listed_keys.ListedKeys.number_of.Goals.{else-at-self-via-then-at-self+else-eq, else-at-self-via-else-at-self}
 

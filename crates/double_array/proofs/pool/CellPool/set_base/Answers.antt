@@ -2,7 +2,7 @@ use Rattle.std.proofs.Common.{arith, ℤ, set, ap, ◌∙◌, w32}
 use Rattle.std.proofs.lemmas.Int.{to_z-of_z}
 use Rattle.double_array.specs.Pool.{Pool}
 use Rattle.double_array.proofs.PoolLemmas.{long_seen, pool_refilled, refilled_seen, based, IsRefilled}
-use Rattle.cell_walk.specs.CellMap.{check}
+use Rattle.mj_model.specs.CellMap.{check}
 use Rattle.double_array.proofs.pool.CellPool.set_base.Goals as goal
 
 pub change_base-requires : goal.change_base-requires

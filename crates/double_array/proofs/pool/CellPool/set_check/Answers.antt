@@ -1,7 +1,7 @@
 use Rattle.std.proofs.Common.{pos, ap}
 use Rattle.double_array.specs.Pool.{Pool}
 use Rattle.double_array.proofs.PoolLemmas.{pool_refilled, refilled_seen, rechecked, IsRefilled}
-use Rattle.cell_walk.specs.CellMap.{base}
+use Rattle.mj_model.specs.CellMap.{base}
 use Rattle.double_array.proofs.pool.CellPool.set_check.Goals as goal
 
 refilled : (c : goal.After-change_check) → IsRefilled c.self.inside.cells c.change_check.new.cells c.self.inside.top c.args.i (base c.args.self.now.cells c.args.i, pos c.args.state)

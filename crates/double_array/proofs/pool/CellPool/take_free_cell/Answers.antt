@@ -1,6 +1,6 @@
 use Rattle.std.proofs.Common.{arith, ℕ, pos, ℤ, set, ap, sym, subst, ◌∙◌, w32}
 use Rattle.std.proofs.lemmas.Int.{to_z-of_z}
-use Rattle.double_array.specs.Seen.{cells_as_seen}
+use Rattle.double_array.specs.Views.{cell_views}
 use Rattle.double_array.specs.Pool.{Pool, IsPool}
 use Rattle.double_array.proofs.RingLemmas.{linked_within}
 use Rattle.double_array.proofs.RingWrites.{IsTaken}
@@ -21,7 +21,7 @@ pub invariant_of-self : goal.invariant_of-self
 invariant_of-self c =
     let view_is = ap (λ (p : Pool). p.cells) c.self.view_is in
     let e = c.take.ensures in
-    let taken : IsTaken c.self.inside.cells c.take.new.cells c.args.i (c.args.base, pos c.args.state) = record { ring = e.ring; links = e.links; seen_is = e.seen ∙ ap (λ (b : ℤ). set (cells_as_seen c.self.inside.cells) c.args.i (b, pos c.args.state)) (to_z-of_z w32 c.args.base c.ranges.base) } in
+    let taken : IsTaken c.self.inside.cells c.take.new.cells c.args.i (c.args.base, pos c.args.state) = record { ring = e.ring; links = e.links; seen_is = e.seen ∙ ap (λ (b : ℤ). set (cell_views c.self.inside.cells) c.args.i (b, pos c.args.state)) (to_z-of_z w32 c.args.base c.ranges.base) } in
     let links = linked_if_free c.self.inside.cells c.args.self.now.cells c.self.inside.top c.self.inside.start c.args.i c.self.invariant view_is c.requires.free (omega (arith, c.requires.inner)) (omega (arith, c.requires.room)) in
     let s = c.start_without-self-inside in
     subst (λ (t : ℕ). IsPool c.take.new.cells t s.result) (sym c.max-self-inside.ensures)

@@ -15,8 +15,8 @@ returns-in_err-place-clause-large c = λ all rows rest is written.
     let old = c.args.self.now in
     let row = row_of c.args.row.now in
     let number : c.len-number.result ≡ length old.features.places.items = search rules in
-    let told : c.first_of-first.result ≡ slice_index_or old.firsts.items c.len-number.result c.len-number.result = search rules in
-    let next = subst (IsNextUse (features_of rows) row.feature) (sym told) (next_use all rows rest row old.firsts.items c.len-number.result is written.firsts (number ∙ written.features.long)) in
+    let reported : c.first_of-first.result ≡ slice_index_or old.firsts.items c.len-number.result c.len-number.result = search rules in
+    let next = subst (IsNextUse (features_of rows) row.feature) (sym reported) (next_use all rows rest row old.firsts.items c.len-number.result is written.firsts (number ∙ written.features.long)) in
     passed_on c.from_residual.result _ c.from_residual.ensures.1
     (λ same. front_too_large all (rows ++ row ∷ []) rest is (record_too_large rows row (c.in_err-place.ensures.large (features_of rows) written.features next same)))
 
@@ -27,16 +27,16 @@ returns-clause-written c = λ all rows rest is written.
     let entry = c.args.row.now.entry in
     let place = c.in_ok-place.place in
     let number : c.len-number.result ≡ length old.features.places.items = search rules in
-    let told : c.first_of-first.result ≡ slice_index_or old.firsts.items c.len-number.result c.len-number.result = search rules in
-    let next = subst (IsNextUse (features_of rows) row.feature) (sym told) (next_use all rows rest row old.firsts.items c.len-number.result is written.firsts (number ∙ written.features.long)) in
+    let reported : c.first_of-first.result ≡ slice_index_or old.firsts.items c.len-number.result c.len-number.result = search rules in
+    let next = subst (IsNextUse (features_of rows) row.feature) (sym reported) (next_use all rows rest row old.firsts.items c.len-number.result is written.firsts (number ∙ written.features.long)) in
     let more = c.in_ok-place.ensures.place (features_of rows) written.features next in
     let price : SFits w16 entry.cost = search rules in
     let cost = to_z-of_z w16 entry.cost price in
     let text : IsUtf8 entry.feature.now = search rules in
     let stored = λ (z : ℤ) (l : ℕ). stored_with entry.left entry.right z place.start l in
     token_written all rows row old _ place written more
-    (subst (λ (l : ℕ). FitsBytes (stored entry.cost l)) more.stands.long (subst (λ (z : ℤ). FitsBytes (stored z place.length)) cost c.token_bytes-token.ensures.fits))
+    (subst (λ (l : ℕ). FitsBytes (stored entry.cost l)) more.is_stored.long (subst (λ (z : ℤ). FitsBytes (stored z place.length)) cost c.token_bytes-token.ensures.fits))
     text
     (c.in_ok-extend_from_slice.ensures.items ∙ ap (λ (bytes : List ℕ). old.tokens.items ++ bytes)
-    (c.token_bytes-token.ensures.bytes ∙ ap (λ (z : ℤ). stored_bytes (stored z place.length)) cost ∙ ap (λ (l : ℕ). stored_bytes (stored entry.cost l)) more.stands.long))
+    (c.token_bytes-token.ensures.bytes ∙ ap (λ (z : ℤ). stored_bytes (stored z place.length)) cost ∙ ap (λ (l : ℕ). stored_bytes (stored entry.cost l)) more.is_stored.long))
     refl

@@ -13,7 +13,7 @@ invariant_of-self c =
     (sym (entries_back c.self.inside.sizes c.self.inside.records.items c.append_within-read.new.records.items c.truncate.new.self.items c.len-held.result
     c.truncate.ensures.items (c.len-held.ensures ∙ c.self.inside.records.ok.0) c.append_within-read.ensures.begins)) c.self.invariant
 
-pub returns-then-is_err-clause-kept : goal.returns-then-is_err-clause-kept
-returns-then-is_err-clause-kept c =
+pub returns-then-is_err-clause-unchanged : goal.returns-then-is_err-clause-unchanged
+returns-then-is_err-clause-unchanged c =
     on_error c.append_within-read.result (entries_back c.self.inside.sizes c.self.inside.records.items c.append_within-read.new.records.items c.truncate.new.self.items c.len-held.result
     c.truncate.ensures.items (c.len-held.ensures ∙ c.self.inside.records.ok.0) c.append_within-read.ensures.begins ∙ c.self.view_is)

@@ -1,6 +1,6 @@
 use Rattle.std.proofs.Common.{ℕ, [], refl, ap, ◌∙◌, subst, arith}
-use Rattle.image_bytes.specs.ImageBytes.{section_end}
-use Rattle.image_bytes.specs.declared.header.Header.{Header}
+use Rattle.image_format.specs.ImageBytes.{section_end}
+use Rattle.image_format.specs.declared.header.Header.{Header}
 use Rattle.programs.specs.HashedImages.{HasHashed, digest_place}
 use Rattle.programs.proofs.image_pieces.Hashed.of_first.Goals as goal
 

@@ -1,7 +1,7 @@
 use Rattle.std.proofs.Common.{◌≤◌, ◌^◌, arith, sym, subst}
-use Rattle.lattice_nodes.specs.OnPath.{AreByPlace, HaveRisingPlaces}
+use Rattle.viterbi.specs.Nodes.OnPath.{AreByPlace, HaveRisingPlaces}
 use Rattle.search_tests.specs.Sample.{sample_words}
-use Rattle.lattice_nodes.proofs.OnPathLemmas.{lattice_by_place, path_rises}
+use Rattle.viterbi.proofs.OnPathLemmas.{lattice_by_place, path_rises}
 use Rattle.search_tests.proofs.SampleLemmas.{sample_is_searchable}
 use Rattle.search_tests.proofs.tests.of_lattice_nodes.nodes_of.Goals as goal
 
@@ -17,8 +17,8 @@ fill-requires c =
     let short : sample.length ≤ 2 ^ 20 = omega (arith, c.in_ok-sample.ensures) in
     sample_is_searchable sample.words.items sample.length short
 
-pub nodes_on_path-requires : goal.nodes_on_path-requires
-nodes_on_path-requires c =
+pub mark_nodes_on_path-requires : goal.mark_nodes_on_path-requires
+mark_nodes_on_path-requires c =
     let ws = c.in_ok-sample.sample.words.items in
     let len = c.in_ok-sample.sample.length in
     let short : len ≤ 2 ^ 20 = omega (arith, c.in_ok-sample.ensures) in

@@ -1,5 +1,5 @@
 use Rattle.std.proofs.Common.{◌≤◌, ◌^◌, arith, sym, subst}
-use Rattle.paths.specs.Best.{IsBestPath}
+use Rattle.mj_model.specs.Best.{IsBestPath}
 use Rattle.search_tests.specs.Sample.{sample_connection, sample_words}
 use Rattle.search_tests.proofs.SampleLemmas.{sample_is_searchable}
 use Rattle.search_tests.proofs.tests.of_rivals.rivals_in.Goals as goal

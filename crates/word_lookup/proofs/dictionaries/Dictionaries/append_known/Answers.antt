@@ -1,6 +1,6 @@
 use Rattle.std.proofs.Common.{rules, arith, ap, refl}
 use Rattle.std.proofs.lemmas.List.{drop_all}
-use Rattle.paths.specs.KnownWords.{known_from}
+use Rattle.mj_model.specs.KnownWords.{known_from}
 use Rattle.mj_model.specs.Tables.{lexicons}
 use Rattle.word_lookup.specs.Overlays.{overlay_of}
 use Rattle.word_lookup.proofs.SurfaceLemmas.{all_grown, begun, have_front, have_kept, more_grown}
@@ -19,11 +19,11 @@ loop-number-preserved c =
     (lexicons_left c.args.at.place c.args.at.start c.args.at.rest.now (lexicons o) c.loop-number.number (omega (arith, count, less)))
     c.in_ok-append_known_of.ensures.appended
 
-pub returns-in_err-append_known_of-clause-kept : goal.returns-in_err-append_known_of-clause-kept
-returns-in_err-append_known_of-clause-kept c = have_kept _ _ _ _ _ _ _ _ c.loop-number.invariant (search rules) c.append_known_of.ensures.kept
+pub returns-in_err-append_known_of-clause-unchanged : goal.returns-in_err-append_known_of-clause-unchanged
+returns-in_err-append_known_of-clause-unchanged c = have_kept _ _ _ _ _ _ _ _ c.loop-number.invariant (search rules) c.append_known_of.ensures.unchanged
 
-pub returns-clause-kept : goal.returns-clause-kept
-returns-clause-kept c = have_front _ _ _ _ _ _ _ c.loop-number.invariant (search rules) refl
+pub returns-clause-unchanged : goal.returns-clause-unchanged
+returns-clause-unchanged c = have_front _ _ _ _ _ _ _ c.loop-number.invariant (search rules) refl
 
 pub returns-clause-appended : goal.returns-clause-appended
 returns-clause-appended c =

@@ -1,5 +1,5 @@
 use Rattle.std.proofs.Common.{drop}
-use Rattle.paths.specs.KnownWords.{known_from}
+use Rattle.mj_model.specs.KnownWords.{known_from}
 use Rattle.mj_model.specs.Tables.{lexicons}
 use Rattle.word_lookup.specs.Overlays.{overlay_of}
 use Rattle.word_lookup.proofs.SurfaceLemmas.{HaveGrown}

@@ -1,10 +1,10 @@
 use Rattle.std.proofs.Common.{rules, arith, ◌≡◌, List, flat_map, length, sym, ap, ◌∙◌, refl, subst}
 use Rattle.std.specs.List.{AllByRecursion}
-use Rattle.image_bytes.specs.ImageMeaning.{image_tables}
-use Rattle.paths.specs.KnownWords.{known_in}
+use Rattle.image_format.specs.ImageMeaning.{image_tables}
+use Rattle.mj_model.specs.KnownWords.{known_in}
 use Rattle.mj_model.specs.Tables.{Lexeme, Token}
-use Rattle.dict_image.specs.Prefixes.{PrefixesSeen, prefixes_in}
-use Rattle.paths.specs.declared.entry_list.EntryList.TheVariants.{Lexicon}
+use Rattle.dict_image.specs.Prefixes.{PrefixesView, prefixes_in}
+use Rattle.mj_model.specs.declared.paths.entry_list.EntryList.TheVariants.{Lexicon}
 use Rattle.word_lookup.specs.Overlays.{overlay_of}
 use Rattle.word_lookup.specs.Surfaces.{all_tables, tokens_of}
 use Rattle.word_lookup.proofs.KnownFound.{prefix_words, known_by_prefixes}
@@ -20,7 +20,7 @@ loop-length-init c =
     let n = c.args.number in
     let t = image_tables c.numbered-dict.result.now in
     let e : c.into_iter-length-iterator.result.prefixes ≡ prefixes_in at.rest.now t.lexicon =
-    ap (λ (it : PrefixesSeen). it.prefixes) c.into_iter-length-iterator.ensures.into_iter_gives ∙ c.prefixes-length-items.ensures.prefixes in
+    ap (λ (it : PrefixesView). it.prefixes) c.into_iter-length-iterator.ensures.into_iter_gives ∙ c.prefixes-length-items.ensures.prefixes in
     let whole = ap (flat_map (prefix_words n at.place at.start)) e ∙ sym (known_by_prefixes n at.place at.start at.rest.now t.lexicon)
     ∙ ap (λ (l : List Lexeme). known_in at.place at.start at.rest.now n l) (sym (lexicon_at (all_tables o) n t c.numbered-dict.ensures.tables)) in
     let are = prefixes_are at.rest.now t c.numbered-dict.ensures.fits in
@@ -52,11 +52,11 @@ loop-length-preserved c =
       are = all.1;
     }
 
-pub returns-in_err-push-clause-kept : goal.returns-in_err-push-clause-kept
-returns-in_err-push-clause-kept c = have_front _ _ _ _ _ _ _ c.loop-length.invariant.grown (search rules) c.in_err-push.ensures.items
+pub returns-in_err-push-clause-unchanged : goal.returns-in_err-push-clause-unchanged
+returns-in_err-push-clause-unchanged c = have_front _ _ _ _ _ _ _ c.loop-length.invariant.grown (search rules) c.in_err-push.ensures.items
 
-pub returns-clause-kept : goal.returns-clause-kept
-returns-clause-kept c = have_front _ _ _ _ _ _ _ c.loop-length.invariant.grown (search rules) refl
+pub returns-clause-unchanged : goal.returns-clause-unchanged
+returns-clause-unchanged c = have_front _ _ _ _ _ _ _ c.loop-length.invariant.grown (search rules) refl
 
 pub returns-clause-appended : goal.returns-clause-appended
 returns-clause-appended c =

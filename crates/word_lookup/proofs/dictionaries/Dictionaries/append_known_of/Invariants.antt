@@ -1,7 +1,7 @@
 use Rattle.std.proofs.Common.{flat_map, length}
 use Rattle.std.specs.List.{AllByRecursion}
-use Rattle.paths.specs.KnownWords.{known_in}
-use Rattle.paths.specs.declared.entry_list.EntryList.TheVariants.{Lexicon}
+use Rattle.mj_model.specs.KnownWords.{known_in}
+use Rattle.mj_model.specs.declared.paths.entry_list.EntryList.TheVariants.{Lexicon}
 use Rattle.word_lookup.specs.Overlays.{overlay_of}
 use Rattle.word_lookup.specs.Surfaces.{tokens_of}
 use Rattle.word_lookup.specs.WordsHere.{lexicon_of}

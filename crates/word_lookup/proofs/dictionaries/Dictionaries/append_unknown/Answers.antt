@@ -40,7 +40,7 @@ invariant_of-entries c =
 
 pub spans-spans-requires : goal.spans-spans-requires
 unfolding overlay_of
-spans-spans-requires c = record { here = c.requires.last.here; behind_blanks = c.requires.last.behind_blanks }
+spans-spans-requires c = record { here = c.requires.last.here; after_blanks = c.requires.last.after_blanks }
 
 pub returns-clause-last : goal.returns-clause-last
 unfolding overlay_of

@@ -1,4 +1,4 @@
-use Rattle.image_bytes.specs.ImageMeaning.{image_tables}
+use Rattle.image_format.specs.ImageMeaning.{image_tables}
 use Rattle.word_lookup.specs.Overlays.{overlay_of}
 use Rattle.word_lookup.specs.Surfaces.{all_tables}
 use Rattle.word_lookup.proofs.TableLemmas.{all_fit, fits_at, user_at}

@@ -1,5 +1,5 @@
 use Rattle.std.proofs.Common.{ap, map}
-use Rattle.image_bytes.specs.ImageMeaning.{image_tables}
+use Rattle.image_format.specs.ImageMeaning.{image_tables}
 use Rattle.mj_model.specs.declared.category.CharInfo.{CharInfo}
 use Rattle.word_lookup.proofs.DictionaryLaws.{system_by}
 use Rattle.word_lookup.proofs.UserLemmas.{laid_over}

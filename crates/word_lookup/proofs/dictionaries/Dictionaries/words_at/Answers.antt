@@ -5,5 +5,5 @@ use Rattle.word_lookup.proofs.dictionaries.Dictionaries.words_at.Goals as goal
 
 pub returns-clause-none : goal.returns-clause-none
 returns-clause-none c = λ none.
-    let are = from_none (overlay_of c.args.self.now) _ _ _ c.new-surfaces.ensures.items c.in_ok-surfaces_in_turn.ensures.appended in
+    let are = from_none (overlay_of c.args.self.now) _ _ _ c.new-surfaces.ensures.items c.in_ok-surfaces_at.ensures.appended in
     c.append_words-appended.ensures.none (c.deref.ensures.value ∙ none_of (overlay_of c.args.self.now) _ _ are none)

@@ -1,8 +1,8 @@
 use Rattle.std.proofs.Common.{ap, arith, drop, length, length-take, take, ◌∙◌}
 use Rattle.std.proofs.lemmas.List.{length-map}
-use Rattle.image_bytes.specs.ImageMeaning.{image_tables}
+use Rattle.image_format.specs.ImageMeaning.{image_tables}
 use Rattle.dict_image.specs.Numbered.{numbered_tokens}
-use Rattle.dict_image.specs.Seen.{ids_and_cost_of}
+use Rattle.dict_image.specs.Views.{ids_and_cost_of}
 use Rattle.word_lookup.specs.Surfaces.{words_by_ids}
 use Rattle.word_lookup.proofs.RowLemmas.{words_of_row}
 use Rattle.word_lookup.proofs.surface_words.SurfaceWords.among.Goals as goal

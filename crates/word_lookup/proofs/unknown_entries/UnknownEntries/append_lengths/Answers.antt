@@ -5,8 +5,8 @@ use Rattle.std.proofs.lemmas.Iterator.Consumers.{YieldsList-turn, YieldsList-end
 use Rattle.std.proofs.lemmas.List.{length_push, length-take}
 use Rattle.mj_model.specs.declared.word.Word.{Word}
 use Rattle.mj_model.specs.Lists.{up_to}
-use Rattle.paths.specs.Run.{bytes_of}
-use Rattle.paths.proofs.CharBytes.{chars_within}
+use Rattle.mj_model.specs.Run.{bytes_of}
+use Rattle.mj_model.proofs.CharBytes.{chars_within}
 use Rattle.word_lookup.specs.Overlays.{overlay_of}
 use Rattle.word_lookup.specs.Surfaces.{GrowsByWords}
 use Rattle.word_lookup.specs.UnknownEntries.{entries_of, words_of_spans}
@@ -46,11 +46,11 @@ loop-c-preserved c =
       end_is = at ∙ ap (λ (k : ℕ). c.args.at.start + bytes_of k cs) (sym long);
     }
 
-pub returns-in_err-append_surface-clause-kept : goal.returns-in_err-append_surface-clause-kept
-returns-in_err-append_surface-clause-kept c = grown_kept (overlay_of c.args.self.dictionaries) _ _ _ _ _ _ c.loop-c.invariant.grown (search rules) c.append_surface.ensures.kept
+pub returns-in_err-append_surface-clause-unchanged : goal.returns-in_err-append_surface-clause-unchanged
+returns-in_err-append_surface-clause-unchanged c = grown_kept (overlay_of c.args.self.dictionaries) _ _ _ _ _ _ c.loop-c.invariant.grown (search rules) c.append_surface.ensures.unchanged
 
-pub returns-clause-kept : goal.returns-clause-kept
-returns-clause-kept c = grown_front (overlay_of c.args.self.dictionaries) _ _ _ _ _ c.loop-c.invariant.grown (search rules) refl
+pub returns-clause-unchanged : goal.returns-clause-unchanged
+returns-clause-unchanged c = grown_front (overlay_of c.args.self.dictionaries) _ _ _ _ _ c.loop-c.invariant.grown (search rules) refl
 
 pub returns-clause-appended : goal.returns-clause-appended
 returns-clause-appended c =

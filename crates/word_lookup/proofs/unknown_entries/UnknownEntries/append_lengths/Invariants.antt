@@ -1,7 +1,7 @@
 use Rattle.std.proofs.Common.{◌≡◌, ◌+◌, length}
 use Rattle.std.specs.Prelude.{chars}
 use Rattle.mj_model.specs.Lists.{up_to}
-use Rattle.paths.specs.Run.{bytes_of}
+use Rattle.mj_model.specs.Run.{bytes_of}
 use Rattle.word_lookup.specs.Overlays.{overlay_of}
 use Rattle.word_lookup.specs.Surfaces.{GrowsByWords}
 use Rattle.word_lookup.specs.UnknownEntries.{entries_of, words_of_spans}

@@ -1,6 +1,6 @@
 use Rattle.std.proofs.Common.{rules, arith, ap, ◌∙◌, subst}
 use Rattle.std.specs.Prelude.{chars, IfSome, Option}
-use Rattle.paths.proofs.CharBytes.{chars_within}
+use Rattle.mj_model.proofs.CharBytes.{chars_within}
 use Rattle.word_lookup.specs.declared.run.Run.{Run}
 use Rattle.word_lookup.specs.Overlays.{overlay_of}
 use Rattle.word_lookup.specs.Spans.{HasBytes}
@@ -28,9 +28,9 @@ returns-clause-appended c =
       | in_default w ↦ lengths_grown o c.args.at.place c.args.at.start cs entries c.args.spans c.args.out.now.items _ _ c.append_lengths.result w.in_default.is (ap (λ (v : _). v.items) w.out-is) c.append_lengths.ensures.appended
     ]
 
-pub returns-clause-kept : goal.returns-clause-kept
-returns-clause-kept c =
+pub returns-clause-unchanged : goal.returns-clause-unchanged
+returns-clause-unchanged c =
     elim c.match-spans.branch [
-      | in-Some+in_ok-append_surface w ↦ grown_kept (overlay_of c.args.self.dictionaries) _ _ _ _ _ _ w.in_ok-append_surface.ensures.appended (search rules) (c.append_lengths.ensures.kept ∙ ap (λ (v : _). v.items) w.out-is)
-      | in_default w ↦ grown_kept (overlay_of c.args.self.dictionaries) _ _ _ _ _ _ (none_grown (overlay_of c.args.self.dictionaries) c.args.out.now.items) (search rules) (c.append_lengths.ensures.kept ∙ ap (λ (v : _). v.items) w.out-is)
+      | in-Some+in_ok-append_surface w ↦ grown_kept (overlay_of c.args.self.dictionaries) _ _ _ _ _ _ w.in_ok-append_surface.ensures.appended (search rules) (c.append_lengths.ensures.unchanged ∙ ap (λ (v : _). v.items) w.out-is)
+      | in_default w ↦ grown_kept (overlay_of c.args.self.dictionaries) _ _ _ _ _ _ (none_grown (overlay_of c.args.self.dictionaries) c.args.out.now.items) (search rules) (c.append_lengths.ensures.unchanged ∙ ap (λ (v : _). v.items) w.out-is)
     ]

@@ -1,8 +1,8 @@
 use Rattle.std.proofs.Common.{sym, subst}
 use Rattle.std.specs.List.{AllByRecursion}
-use Rattle.image_bytes.specs.ImageMeaning.{image_tables}
+use Rattle.image_format.specs.ImageMeaning.{image_tables}
 use Rattle.dict_image.specs.Numbered.{numbered_tokens}
-use Rattle.paths.specs.declared.entry_list.EntryList.TheVariants.{Categories}
+use Rattle.mj_model.specs.declared.paths.entry_list.EntryList.TheVariants.{Categories}
 use Rattle.word_lookup.specs.Overlays.{overlay_of}
 use Rattle.word_lookup.proofs.RowLemmas.{StandsAtNumber, unknown_stand}
 use Rattle.word_lookup.proofs.SurfaceLemmas.{surface_appended}

@@ -1,5 +1,5 @@
 use Rattle.std.proofs.lemmas.Str.{IsUtf8-drop}
-use Rattle.paths.proofs.PlaceWords.{place_there}
+use Rattle.mj_model.proofs.PlaceWords.{place_there}
 use Rattle.search_tests.proofs.tests.of_word_lookup.expected_words.is_at.Goals as goal
 
 pub returns : goal.returns

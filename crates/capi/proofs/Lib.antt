@@ -1,0 +1,12 @@
+pub mod OwnedLemmas
+pub mod SlotValues
+pub mod PassedTypes
+pub mod BoxCalls
+pub mod CallLemmas
+pub mod SettingLemmas
+pub mod PlaceLemmas
+pub mod TextLemmas
+pub mod FillLemmas
+pub mod WalkLemmas
+pub mod NodeLemmas
+pub mod CodeLemmas

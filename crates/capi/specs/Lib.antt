@@ -1,0 +1,12 @@
+pub mod CallWords
+pub mod Codes
+pub mod Outputs
+pub mod Owned
+pub mod Handles
+pub mod Calls
+pub mod Settings
+pub mod Queries
+pub mod Texts
+pub mod Words
+pub mod Nodes
+pub mod TextLines

@@ -1,8 +1,0 @@
-use Rattle.std.specs.Prelude.{drop}
-use Rattle.cutter_c.specs.Nodes.{c_nodes}
-use Rattle.cutter_c.proofs.FillLemmas.{IsFilling}
-use Rattle.word_lookup.specs.Overlays.{overlay_of}
-use Rattle.cutter_c.proofs.nodes.fill_nodes.Given as goal
-
-abbrev pub invariant-loop-i : goal.invariant-loop-i
-invariant-loop-i l = IsFilling (drop l.fn.from (c_nodes (overlay_of l.last.dictionaries) l.last.text.now l.nodes l.on_best)) l.i l.initial.out l.out

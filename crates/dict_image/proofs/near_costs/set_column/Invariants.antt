@@ -1,7 +1,0 @@
-use Rattle.std.proofs.Common.{length}
-use Rattle.dict_image.specs.Columns.{IsColumnSet}
-use Rattle.dict_image.specs.NearCosts.{cost_after}
-use Rattle.dict_image.proofs.near_costs.set_column.Given as goal
-
-abbrev pub invariant-loop-row : goal.invariant-loop-row
-invariant-loop-row l = IsColumnSet (cost_after l.sizes l.costs l.lefts l.rights l.column) (length l.rights) l.row l.column l.fn.near l.near

@@ -1,0 +1,12 @@
+pub mod KeyPlaces
+pub mod Outlines
+pub mod CheckedRanges
+pub mod CheckedCategories
+pub mod Cells
+pub mod Values
+pub mod KeyPrefixes
+pub mod PathsToKnown
+pub mod Stretches
+pub mod Utf8States
+pub mod Checks
+pub mod BeforeMemory

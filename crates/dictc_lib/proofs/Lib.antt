@@ -1,0 +1,6 @@
+pub mod FileLineLemmas
+pub mod ListingLemmas
+pub mod MatrixFileLemmas
+pub mod PairLemmas
+pub mod SurfaceLemmas
+pub mod TemplateLemmas

@@ -1,0 +1,9 @@
+pub mod CompileContext
+pub mod FileLines
+pub mod Listings
+pub mod MatrixFiles
+pub mod PairRows
+pub mod Statuses
+pub mod Surfaces
+pub mod Templates
+pub mod ReportedSteps

@@ -1,0 +1,81 @@
+//! The command line with its image names resolved, and a check that no input is overwritten.
+
+use command_lines::dictc::{Base, Command, Options, parse_command};
+use command_lines::{OptionsFault, Texts};
+use programs::{EscapedLine, image_path};
+use std::alloc::Global;
+use std::fs;
+use std::os::unix::fs::MetadataExt;
+use std::string::String;
+
+/// Parses the words that follow the program's name and resolves the image names to paths. An output
+/// path that is also an input is an error. Help and hints are taken from `texts`.
+pub fn read_command(
+    rt: &HostRuntime,
+    words: Vec<String>,
+    texts: &Texts<'_>,
+) -> Result<Command, OptionsFault> {
+    let mut asked = parse_command(rt.alloc(), words, texts)?;
+    find_images(rt, &mut asked)?;
+    if let Command::Image(parse_command) = &asked {
+        if overwrites_input(rt, parse_command) {
+            return Err(overwritten_input(rt.alloc(), parse_command.out.as_str()));
+        }
+    }
+    Ok(asked)
+}
+
+/// Replaces the name of each image that is read by its path.
+fn find_images(rt: &HostRuntime, asked: &mut Command) -> Result<(), OptionsFault> {
+    match asked {
+        Command::Image(parse_command) => {
+            if let Base::System { dic, .. } = &mut parse_command.base {
+                *dic = image_path(rt, dic.as_str())?;
+            }
+        }
+        Command::Ids(parse_command) => {
+            parse_command.dic = image_path(rt, parse_command.dic.as_str())?;
+            for user in &mut parse_command.users {
+                *user = image_path(rt, user.as_str())?;
+            }
+        }
+    }
+    Ok(())
+}
+
+/// Returns whether the output would replace an input file.
+fn overwrites_input(rt: &HostRuntime, parse_command: &Options) -> bool {
+    let out = parse_command.out.as_str();
+    let is_base = match &parse_command.base {
+        Base::Definitions { matrix, chars, unk } => {
+            is_same(rt, matrix, out) || is_same(rt, chars, out) || is_same(rt, unk, out)
+        }
+        Base::System { dic, .. } => is_same(rt, dic, out),
+    };
+    is_base
+        || parse_command
+            .lexicons
+            .iter()
+            .any(|path| is_same(rt, path, out))
+}
+
+/// Returns the error of a command line whose output path is an input file.
+fn overwritten_input(alloc: Global, out: &str) -> OptionsFault {
+    let out = EscapedLine(out);
+    match format!(in alloc; "dictc: --out would overwrite an input file: {out}\n") {
+        Ok(text) => OptionsFault::Bad(text),
+        Err(_) => OptionsFault::Memory,
+    }
+}
+
+/// Returns whether two paths are equal or lead to the same regular file. Devices are never the
+/// same.
+fn is_same(rt: &HostRuntime, path: &String, out: &str) -> bool {
+    if path.as_str() == out {
+        return true;
+    }
+    match (fs::metadata(rt, path.as_str()), fs::metadata(rt, out)) {
+        (Ok(one), Ok(two)) => one.is_file() && one.dev() == two.dev() && one.ino() == two.ino(),
+        _ => false,
+    }
+}

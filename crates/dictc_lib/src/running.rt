@@ -1,0 +1,14 @@
+//! Running a command of `dictc`.
+
+use crate::compile_error::CompileError;
+use crate::compiling::compile_and_report;
+use crate::ids::print_ids;
+use command_lines::dictc::Command;
+
+/// Compiles a dictionary, or lists the ids and costs of entries.
+pub fn run_command(rt: &HostRuntime, asked: &Command) -> Result<(), CompileError> {
+    match asked {
+        Command::Image(options) => compile_and_report(rt, options),
+        Command::Ids(options) => Ok(print_ids(rt, options)?),
+    }
+}

@@ -1,5 +1,0 @@
-pub mod FileLineLemmas
-pub mod ListingLemmas
-pub mod PairLemmas
-pub mod SurfaceLemmas
-pub mod TemplateLemmas

@@ -1,9 +1,0 @@
-pub mod Beside
-pub mod FileLines
-pub mod Listings
-pub mod MatrixFiles
-pub mod PairRows
-pub mod Statuses
-pub mod Surfaces
-pub mod Templates
-pub mod ToldSteps

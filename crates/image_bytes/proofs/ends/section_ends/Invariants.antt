@@ -1,6 +1,0 @@
-use Rattle.std.proofs.Common.{◌≡◌, ◌≤◌, length, slice_index, ℕ}
-use Rattle.image_bytes.specs.ImageBytes.{section_end}
-use Rattle.image_bytes.proofs.ends.section_ends.Given as goal
-
-abbrev pub invariant-loop-k : goal.invariant-loop-k
-invariant-loop-k l = (length l.ends ≡ 9) × ((j : ℕ) → j ≤ l.k → slice_index l.ends j ≡ section_end l.header j)

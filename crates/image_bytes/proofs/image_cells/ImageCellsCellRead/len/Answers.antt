@@ -1,6 +1,0 @@
-use Rattle.std.proofs.Common.{sym}
-use Rattle.image_bytes.proofs.CellLemmas.{cell_count}
-use Rattle.image_bytes.proofs.image_cells.ImageCellsCellRead.len.Goals as goal
-
-pub returns : goal.returns
-returns c = sym (cell_count c.args.self.now.bytes.now)

@@ -1,7 +1,0 @@
-use Rattle.image_bytes.specs.ImageSections.{stored_cells}
-use Rattle.image_check.proofs.KeyLemmas.{byte_back}
-use Rattle.image_check.proofs.keys.byte_between.Goals as goal
-
-pub returns : goal.returns
-returns c =
-    (byte_back c.requires.cells.0 (stored_cells c.args.cells.now.bytes.now) c.args.from c.args.to c.base_at.result c.requires.cells.1 c.requires.to c.requires.named c.base_at.ensures).led

@@ -1,6 +1,0 @@
-use Rattle.std.proofs.Common.{ℕ, ◌<◌}
-use Rattle.image_bytes.specs.ImageSections.{FitsSizes, stored_token}
-use Rattle.image_check.proofs.tokens.first_misfit.Given as goal
-
-abbrev pub invariant-loop-token : goal.invariant-loop-token
-invariant-loop-token l = (k : ℕ) → k < l.token → FitsSizes l.sizes (stored_token l.tokens k)

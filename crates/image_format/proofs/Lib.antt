@@ -1,0 +1,10 @@
+pub mod ImageKeys
+pub mod ImageFaultLaws
+pub mod CellLemmas
+pub mod EndLemmas
+pub mod ItemLemmas
+pub mod NumberLemmas
+pub mod Lending
+pub mod Crossing
+pub mod BorrowedValues
+pub mod BorrowedShown

@@ -1,0 +1,13 @@
+pub mod Layouts
+pub mod DictKinds
+pub mod ImageBytes
+pub mod ImageSections
+pub mod OlderSections
+pub mod ImageFaults
+pub mod ImageMeaning
+pub mod ImageBounds
+pub mod Headers
+pub mod Sections
+pub mod DigestTests
+pub mod BytesInMemory
+pub mod BorrowedImages

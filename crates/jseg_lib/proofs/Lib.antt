@@ -1,0 +1,6 @@
+mod RequestedOverlays
+mod DirectoryLemmas
+mod NoUsers
+mod TextWarningLemmas
+mod PrintedTexts
+mod PeekedCounts

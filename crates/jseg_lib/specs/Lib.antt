@@ -1,0 +1,9 @@
+pub mod PeekedReader
+pub mod Directories
+pub mod Formatting
+pub mod Images
+pub mod Printing
+pub mod RequestedOutput
+pub mod Views
+pub mod TextWarnings
+pub mod WatchedReader

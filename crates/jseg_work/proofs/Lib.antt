@@ -1,3 +1,0 @@
-mod AskedOverlays
-mod DirectoryLemmas
-mod NoUsers

@@ -1,9 +1,0 @@
-use Rattle.std.proofs.Common.{◌≡◌, ◌++◌, take, flat_map}
-use Rattle.lattice_nodes.specs.Reaching.{AreMarked}
-use Rattle.lattice_nodes.proofs.reaching.add_surfaces.Given as goal
-
-abbrev pub invariant-loop-number : goal.invariant-loop-number
-invariant-loop-number g l = record {
-  joined : l.words.items ≡ l.fn.words.items ++ flat_map (g.S.WordSource.says l.source).surface_words (take l.number l.surfaces);
-  marked : AreMarked l.words.items l.marks;
-}

@@ -1,5 +1,0 @@
-use Rattle.std.proofs.Common.{sym}
-use Rattle.lattice_printer.proofs.dot.append_dot_head.Goals as goal
-
-pub returns-clause-appended : goal.returns-clause-appended
-returns-clause-appended c = rw (sym c.as_bytes.ensures.value) c.append_pieces.ensures.appended

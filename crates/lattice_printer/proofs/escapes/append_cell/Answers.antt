@@ -1,6 +1,0 @@
-use Rattle.std.proofs.Common.{rules, ◌∙◌}
-use Rattle.word_lookup.proofs.AppendLemmas.{front_kept}
-use Rattle.lattice_printer.proofs.escapes.append_cell.Goals as goal
-
-pub returns-in_err-append_in_cell-clause-kept : goal.returns-in_err-append_in_cell-clause-kept
-returns-in_err-append_in_cell-clause-kept c = front_kept _ _ _ _ _ (search rules) (c.append_in_cell.ensures.kept ∙ c.loop-byte.invariant)

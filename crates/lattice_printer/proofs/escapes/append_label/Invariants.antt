@@ -1,9 +1,0 @@
-use Rattle.std.proofs.Common.{◌≡◌, ℕ, List, ◌++◌, length}
-use Rattle.lattice_printer.specs.Escapes.{in_label_behind, label_text}
-use Rattle.lattice_printer.proofs.escapes.append_label.Given as goal
-
-abbrev pub invariant-loop-byte : goal.invariant-loop-byte
-invariant-loop-byte l = (done : List ℕ) × (l.out.items ≡ l.initial.out.items ++ done) × (done ++ in_label_behind l.held l.rest ≡ label_text l.bytes)
-
-abbrev pub decreases-loop-byte : goal.decreases-loop-byte
-decreases-loop-byte l = length l.rest

@@ -1,0 +1,11 @@
+pub mod PrintedWords
+pub mod PrintedNodes
+pub mod PrintableNodes
+pub mod OneOrder
+pub mod OneNodes
+pub mod OneLattice
+pub mod LineWords
+pub mod EosLemmas
+pub mod PrintedSteps
+pub mod PrintedRows
+pub mod OneLoss

@@ -1,0 +1,10 @@
+pub mod Escapes
+pub mod Pieces
+pub mod MarkedNodes
+pub mod NodesInLine
+pub mod Tsv
+pub mod Dot
+pub mod LatticesOfLines
+pub mod FormattedLattices
+pub mod PrintedLattices
+pub mod OneLattice

@@ -1,0 +1,2 @@
+pub mod LatticePrinter
+pub mod WhyPrinter

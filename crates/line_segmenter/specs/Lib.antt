@@ -1,0 +1,7 @@
+pub mod FaultWords
+pub mod Segmenters
+pub mod LastLines
+pub mod PathEnds
+pub mod Faults
+pub mod TextLines
+pub mod Trusted

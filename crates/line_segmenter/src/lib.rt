@@ -1,0 +1,36 @@
+//! A segmenter in a process: owns its dictionaries, its format and the buffers of the search.
+//!
+//! Use `Segmenter` to segment many lines. It reuses its buffers, and keeps the last line and its
+//! best path until the next call that segments: words, costs, features and the lattice are asked
+//! for afterwards. Its format serves `print` and `parse_lines`. Segmenters on different threads may
+//! share dictionaries, see `Segmenter::share`. The crate `capi` exports it to C.
+//!
+//! Example:
+//!
+//! ```text
+//! let mut segmenter = Segmenter::load(alloc, image, DigestTest::Made)?;
+//! segmenter.append_feature(0, &mut out)   // Err(SegmentFault::NothingSegmented)
+//! segmenter.segment("すもももも".as_bytes())?;
+//! segmenter.append_feature(2, &mut out)   // Err(SegmentFault::NoWord(2)), the path has two words
+//! ```
+//! The test `no_such_word` of `crates/text_tests` runs it.
+#![tactic(auto)]
+
+mod categories;
+mod fault;
+mod features;
+mod last_line;
+mod last_words;
+mod owned_dictionaries;
+mod path_end;
+mod segmenter;
+mod segmenting;
+mod text_lines;
+
+pub use dict_image::DigestTest;
+pub use fault::SegmentFault;
+pub use last_words::LastWords;
+pub use lattice::{LatticeNode, MarkedLattice};
+pub use path_end::PathEnd;
+pub use segmenter::Segmenter;
+pub use text_lines::LinesFault;

@@ -1,0 +1,66 @@
+//! Segments and prints the lines of a text.
+
+ghost use Rattle.std.specs.Prelude.{◌≡◌, None, IfOk, IfErr};
+ghost use Rattle.line_segmenter.specs.TextLines.{ParsesLines, StopsFor};
+ghost use Rattle.line_segmenter.specs.Segmenters.{overlay_of_state};
+ghost use Rattle.mj_model.specs.Lists.{GrowsBy};
+ghost use Rattle.mj_model.specs.Output.{text_lines};
+ghost use Rattle.out_format.specs.Segmentation.{IsSegmentation};
+
+use crate::fault::SegmentFault;
+use crate::segmenter::Segmenter;
+use out_format::words_printer::WordsPrinter;
+use thiserror::Error;
+
+/// The number of the line at which `parse_lines` stopped, counted from 1, and its error.
+#[derive(Clone, Copy, Debug, PartialEq, Eq, Drop, Error)]
+#[error("line {line}: {fault}")]
+pub struct LinesFault {
+    pub line: u64,
+    pub fault: SegmentFault,
+}
+
+impl Segmenter {
+    /// Segments each line of `text` and appends its output in the format, up to the first error.
+    /// Returns the number of lines.
+    ///
+    /// A line ends at an LF. The final LF may be missing. Afterwards no line is kept.
+    pub fn parse_lines(&mut self, text: &[u8], out: &mut Vec<u8>) -> Result<u64, LinesFault>
+        // If the result is Ok, all lines are valid, and the segmentation of the text was appended:
+        // for each line the formatted words of its best path.
+        ensures ok { IfOk result (λ _. GrowsBy (IsSegmentation (overlay_of_state self.old)
+            self.old.format (text_lines text.now)) out.old.items out.new.items) }
+        ensures printed { IfOk result (λ lines.
+            GrowsBy (ParsesLines self.old text.now lines) out.old.items out.new.items) }
+        ensures stopped { IfErr result (λ stopped.
+            GrowsBy (StopsFor self.old text.now stopped.line stopped.fault)
+            out.old.items out.new.items) }
+        ensures cleared { self.new ≡ record self.old { segmented = None } }
+    {
+        self.print_lines(text, out)
+    }
+
+    /// Appends the output of the lines of `text` up to the first error. Returns what `parse_lines`
+    /// returns.
+    fn print_lines(&mut self, text: &[u8], out: &mut Vec<u8>) -> Result<u64, LinesFault>
+        ensures printed { IfOk result (λ lines.
+            GrowsBy (ParsesLines self.old text.now lines) out.old.items out.new.items) }
+        ensures stopped { IfErr result (λ stopped.
+            GrowsBy (StopsFor self.old text.now stopped.line stopped.fault)
+            out.old.items out.new.items) }
+        ensures cleared { self.new ≡ record self.old { segmented = None } }
+    {
+        let printer = WordsPrinter {
+            alloc: self.alloc,
+            dictionaries: self.dictionaries.with_grouping(self.grouping),
+            format: &self.format,
+        };
+        match self.last.print_lines(&printer, text, out) {
+            Ok(lines) => Ok(lines),
+            Err(stopped) => Err(LinesFault {
+                line: stopped.line,
+                fault: SegmentFault::from(stopped.error),
+            }),
+        }
+    }
+}

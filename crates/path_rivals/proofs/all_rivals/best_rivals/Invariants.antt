@@ -1,5 +1,0 @@
-use Rattle.path_rivals.proofs.AllRivalsLemmas.{AreBestTo}
-use Rattle.path_rivals.proofs.all_rivals.best_rivals.Given as goal
-
-abbrev pub invariant-loop-number : goal.invariant-loop-number
-invariant-loop-number l = AreBestTo l.nodes l.path l.number l.first l.bests.items

@@ -1,8 +1,0 @@
-use Rattle.std.proofs.Common.{◌≡◌, ◌++◌, length}
-use Rattle.path_search.proofs.search.read_all.Given as goal
-
-abbrev pub invariant-loop-word : goal.invariant-loop-word
-invariant-loop-word g l = l.words.items ++ g.W.WordsInTurn.left l.left ≡ g.W.WordsInTurn.left l.fn.left
-
-abbrev pub decreases-loop-word : goal.decreases-loop-word
-decreases-loop-word g l = length (g.W.WordsInTurn.left l.left)

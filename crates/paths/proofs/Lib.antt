@@ -1,9 +1,0 @@
-pub mod ChainsBackLemmas
-pub mod BestExists
-pub mod CharBytes
-pub mod KnownMembers
-pub mod UnknownMembers
-pub mod PlaceWords
-pub mod TextPaths
-pub mod CoveredTexts
-pub mod Pruning

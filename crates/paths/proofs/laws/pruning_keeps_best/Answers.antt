@@ -1,5 +1,0 @@
-use Rattle.paths.proofs.Pruning.{pruned_best}
-use Rattle.paths.proofs.laws.pruning_keeps_best.Goals as goal
-
-pub returns : goal.returns
-returns c = λ words kept conn len are pruned path best. pruned_best words kept conn len are pruned path best

@@ -1,0 +1,4 @@
+//! Source directories, and invalid images.
+
+mod directories;
+mod user_images;

@@ -1,4 +1,0 @@
-//! Files, and images at fault.
-
-mod directories;
-mod user_images;

@@ -1,0 +1,29 @@
+-- The segmentation of a text: what a successful run reads and writes.
+use Rattle.std.specs.Prelude.{◌≡◌, ℕ, ◌+◌, List, length, false}
+use Rattle.std.specs.Io.KnownBytes.{Consumes, Appends, IsAtEnd}
+use Rattle.mj_model.specs.Counts.{ReaderState, WriterState}
+use Rattle.mj_model.specs.declared.sources.Sources.{Sources}
+use Rattle.mj_model.specs.Output.{text_lines}
+use Rattle.mj_model.specs.Tables.{Overlay}
+use Rattle.dict_compile.specs.SourceOverlays.{HaveOverlay}
+use Rattle.out_format.specs.Formats.{Format}
+use Rattle.out_format.specs.Segmentation.{IsSegmentation}
+
+-- the reader's whole remaining text, of `lines` lines, was read; its segmentation was written and
+-- then flushed once. If it is not known which bytes the reader has or the writer holds (`left` or
+-- `held` is None), then this is so of some text
+pub record WroteSegmentation (o : Overlay) (format : Format) (reader_before reader_after : ReaderState) (writer_before writer_after : WriterState) (lines : ℕ) : Type 0 where
+  pub text : List ℕ
+  pub output : List ℕ
+  pub read : Consumes reader_before.left reader_after.left text
+  pub whole : IsAtEnd reader_after.left
+  pub counted : lines ≡ length (text_lines text)
+  pub segmented : IsSegmentation o format (text_lines text) output
+  pub written : Appends writer_before.held writer_after.held output
+  pub one_flush : writer_after.flushes ≡ writer_before.flushes + 1
+  pub flushed : writer_after.unflushed ≡ false
+
+-- the run segmented its text with the dictionaries that sources and user lexicons define
+abbrev pub WroteSegmentationBy : Sources → List (List (List ℕ)) → ℕ → Format → ReaderState → ReaderState → WriterState → WriterState → ℕ → Type 0
+WroteSegmentationBy sources users grouping format from to before after lines =
+    (o : Overlay) × HaveOverlay sources users grouping o × WroteSegmentation o format from to before after lines

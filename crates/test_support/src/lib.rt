@@ -1,0 +1,6 @@
+//! What the tests of several crates share: command lines, texts, test cases of errors, and
+//! dictionaries compiled from the sample's sources.
+#![tactic(auto)]
+
+pub mod samples;
+pub mod text;

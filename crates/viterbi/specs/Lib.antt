@@ -1,0 +1,3 @@
+pub mod Search
+pub mod Nodes
+pub mod Rivals

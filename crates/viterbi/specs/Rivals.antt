@@ -1,0 +1,15 @@
+pub mod Crossing
+pub mod Boundaries
+pub mod Rivals
+pub mod Steps
+pub mod AllRivals
+pub mod PathSteps
+pub mod RivalPaths
+pub mod Neighbors
+pub mod PredecessorSearch
+pub mod Successors
+pub mod Places
+pub mod Totals
+pub mod NodesWithNeighbors
+pub mod RivalsState
+pub mod Walked

@@ -1,0 +1,12 @@
+pub mod Nodes
+pub mod EndNodes
+pub mod Slots
+pub mod PredecessorCache
+pub mod PrunedEndNodes
+pub mod Lattice
+pub mod SearchedText
+pub mod StartPositions
+pub mod Interchangeable
+pub mod Connections
+pub mod BestNodes
+pub mod Pruning

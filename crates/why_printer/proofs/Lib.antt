@@ -1,5 +1,0 @@
-pub mod LineWords
-pub mod EosLemmas
-pub mod ShownSteps
-pub mod ShownRows
-pub mod OneLoss

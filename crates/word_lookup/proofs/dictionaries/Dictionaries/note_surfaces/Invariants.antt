@@ -1,7 +1,0 @@
-use Rattle.std.proofs.Common.{◌≤◌}
-use Rattle.dict_image.specs.ContextIds.{HaveSameSizes}
-use Rattle.word_lookup.specs.declared.ids_of_text.TheConstants.{NOTED_MAX}
-use Rattle.word_lookup.proofs.dictionaries.Dictionaries.note_surfaces.Given as goal
-
-abbrev pub invariant-loop-surface : goal.invariant-loop-surface
-invariant-loop-surface l = record { sizes : HaveSameSizes l.fn.ids l.ids; bounded : l.noted ≤ NOTED_MAX }

@@ -1,0 +1,35 @@
+//! A cache of the last scans of a text.
+
+ghost use Rattle.std.specs.Prelude.{◌≡◌};
+ghost use Rattle.word_lookup.specs.ScanCaches.{empty_scans};
+
+use crate::blank_scan::BlankScan;
+use crate::category_scan::CategoryScan;
+
+/// The last scans of a text, kept for lookups at successive positions.
+///
+/// The run at a position and the run after its blanks are cached apart. The blanks of a position
+/// may end far after the next position, so that a single run would be scanned anew at each of them.
+#[derive(Clone, Copy, Debug, Drop)]
+pub struct ScanCache {
+    pub(crate) blanks: Option<BlankScan>,
+    pub(crate) here: Option<CategoryScan>,
+    pub(crate) after_blanks: Option<CategoryScan>,
+    /// The index of the range that contained the last character above U+FFFF. It is a hint: any
+    /// number is valid.
+    pub(crate) range: usize,
+}
+
+impl ScanCache {
+    /// Returns an empty cache, for the first position of a text.
+    pub fn none() -> ScanCache
+        ensures { result ≡ empty_scans }
+    {
+        ScanCache {
+            blanks: None,
+            here: None,
+            after_blanks: None,
+            range: 0,
+        }
+    }
+}

@@ -1,7 +1,0 @@
-//! Lines printed as the words of their best path.
-#![tactic(auto)]
-
-mod printer;
-
-pub use lattice::LineMemory;
-pub use printer::WordsPrinter;
