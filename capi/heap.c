@@ -1,6 +1,7 @@
 /* malloc and realloc with huge pages for large blocks. An image is read at random positions, and
    with small pages most of these reads wait for the translation of an address. packaging/build-heap
-   makes the toolchain's heap call these two functions in place of malloc and realloc. free works
+   makes the heap of dictc and jseg, which read images into memory, call these two functions in
+   place of malloc and realloc. free works
    for their blocks. Nothing is stored about a block, so there is nothing to lock, and a fork is
    safe. */
 #include <errno.h>

@@ -1,12 +1,12 @@
 # shellcheck shell=bash
-# Completes the arguments of jseg, kumquatsieve-cut, dictc and kumquatsieve-import in bash. It is
+# Completes the arguments of jseg, pjseg, dictc and kumquatsieve-import in bash. It is
 # installed under the name of each program, where bash-completion finds it.
 #
 # `cur` is the word that is completed, and `prev` the one before it. bash splits `--out=x` into
 # three words.
 
 _kumquatsieve_codes="C1 C2 C3 C4 C5 C6 C7 F1 F2 G1 G2 G3 G4 G5 I1 I2 I3
-    K1 K2 K3 K4 K5 K6 K7 K8 L1 L2 L3 L4 L5 L6 L7 L8 M1 M2 M3 M4 Memory
+    K1 K2 K3 K4 K5 K6 K7 K8 K9 K10 L1 L2 L3 L4 L5 L6 L7 L8 M1 M2 M3 M4 Memory
     O1 O2 O3 P1 P2 P3 S1 S2 S3 S4 S5 U1 U2"
 _kumquatsieve_encodings="utf-8 euc-jp euc-jis-2004 cp932 iso-2022-jp"
 
@@ -117,7 +117,7 @@ _kumquatsieve_jseg() {
     esac
 }
 
-_kumquatsieve_cut() {
+_kumquatsieve_pjseg() {
     local cur prev
     COMPREPLY=()
     _kumquatsieve_words
@@ -193,6 +193,6 @@ _kumquatsieve_import() {
 }
 
 complete -F _kumquatsieve_jseg jseg
-complete -F _kumquatsieve_cut kumquatsieve-cut
+complete -F _kumquatsieve_pjseg pjseg
 complete -F _kumquatsieve_dictc dictc
 complete -F _kumquatsieve_import kumquatsieve-import

@@ -27,7 +27,7 @@ static images *open_all(char *image, const char *users, fault *error) {
     images *opened = NULL;
     if (list && paths && names) {
         paths[0] = image;
-        opened = open_named(paths, names, cut_fields(list, names, most), error);
+        opened = open_named(paths, names, split_fields(list, names, most), error);
     } else {
         fail_memory(error);
     }
@@ -42,7 +42,7 @@ static bool read_grouping(tables *to, const char *text, fault *error) {
     char *end = NULL;
     unsigned long grouping = text ? strtoul(text, &end, 10) : GROUPING;
     if (text && (end == text || !is_only_blanks(end) || grouping > UINT32_MAX)) {
-        return fail(error, "max-grouping-size %s: no number", text);
+        return fail(error, "max-grouping-size %s: not a number", text);
     }
     to->grouping = grouping > 0 ? (uint32_t)grouping : GROUPING;
     return true;
@@ -105,7 +105,7 @@ static tables *load_beside(char *path, settings *from, bool *is_other, fault *er
     *is_other = made && !is_first_file(made->images, &of.which);
     if (!*is_other) return made;
     release_tables(made);
-    fail(error, "%s: was changed while it was opened", path);
+    fail(error, "%s: changed while it was being opened", path);
     return NULL;
 }
 
@@ -140,10 +140,10 @@ void release_tables(tables *of) {
     if (others == 0) free_tables(of);
 }
 
-bool cutter_over_tables(kumquatsieve_cutter *to, const tables *from, fault *error) {
-    if (!cutter_over_images(to, from->images, error)) return false;
-    uint32_t code = kumquatsieve_set_grouping(to, from->grouping);
+bool segmenter_over_tables(kumquatsieve_segmenter *to, const tables *from, fault *error) {
+    if (!segmenter_over_images(to, from->images, error)) return false;
+    uint32_t code = kumquatsieve_set_grouping(to, from->grouping, NULL);
     if (code == KUMQUATSIEVE_OK) return true;
-    kumquatsieve_free(to);
+    kumquatsieve_segmenter_close(to);
     return fail_code(error, "max-grouping-size", code);
 }

@@ -1,6 +1,7 @@
 /* Errors. */
 #include "formats.h"
 #include <kumquatsieve.h>
+#include <string.h>
 
 static _Thread_local fault common;
 
@@ -17,11 +18,9 @@ bool fail(fault *error, const char *text, ...) {
 bool fail_memory(fault *error) { return fail(error, "out of memory"); }
 
 bool fail_code(fault *error, const char *what, uint32_t code) {
-    uint8_t name[64];
-    size_t length = 0;
+    const char *name = kumquatsieve_explain(code);
     if (code == KUMQUATSIEVE_MEMORY) return fail_memory(error);
-    if (kumquatsieve_fault(code, name, sizeof name, &length) != KUMQUATSIEVE_OK) length = 0;
-    return fail(error, "%s: %.*s", what, (int)length, (const char *)name);
+    return fail(error, "%s: %.*s", what, name ? (int)strcspn(name, "\n") : 0, name ? name : "");
 }
 
 bool fail_left_out(fault *error, const char *what) {

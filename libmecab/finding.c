@@ -8,10 +8,7 @@
 #include <sys/stat.h>
 #include <unistd.h>
 
-/* Where the library is installed, and the image directory of the system. */
-#ifndef PREFIX
-#define PREFIX "/usr/local"
-#endif
+/* The image directory of the system. */
 #ifndef IMAGES
 #define IMAGES "/usr/local/var/lib/kumquatsieve"
 #endif
@@ -25,7 +22,7 @@ static const char VARIABLE[] = "KUMQUATSIEVE_DICTIONARY";
 static const char SYSTEM_SETTINGS[] = "/etc/mecabrc";
 static const char RC_PATH[] = "$(rcpath)";
 
-/* Where the settings came from: the option, the user or the system. */
+/* The origin of the settings: the option, the user or the system. */
 typedef enum source { NO_SOURCE, GIVEN_SOURCE, USERS_SOURCE, SYSTEM_SOURCE } source;
 
 static bool is_folder(const char *path) {
@@ -84,37 +81,52 @@ static bool is_known(const char *name) {
 /* Reports that a directory has a dictionary of MeCab, and how to import it as `name`. */
 static bool fail_not_imported(fault *error, const char *folder, const char *name) {
     if (is_known(name)) {
-        return fail(
-            error,
-            "%s is a dictionary of MeCab's: `kumquatsieve-import %s` makes an image of its sources",
-            folder, name);
+        return fail(error,
+                    "%s is a MeCab dictionary, not an image: compile its sources with "
+                    "`kumquatsieve-import %s`",
+                    folder, name);
     }
     return fail(error,
-                "%s is a dictionary of MeCab's: `kumquatsieve-import SOURCES %s/%s.img` makes an "
-                "image of its sources",
+                "%s is a MeCab dictionary, not an image: compile its sources with "
+                "`kumquatsieve-import SOURCES %s/%s.img`",
                 folder, IMAGES, name);
 }
 
-/* A call of the library that finds an image by a name. */
-typedef uint32_t find_call(const char *name, const char *prefix, char *path, size_t room,
-                           size_t *needed);
-
-/* Sets *path to what a call finds, which the caller frees, or to NULL if no image has the name.
-   Returns false if memory runs out. */
-static bool find(find_call *find_path, const char *name, char **path) {
+/* Sets *path to the path of the image that a name means, which the caller frees, or to NULL if no
+   image has the name. Returns false if memory runs out. */
+static bool find(const char *name, char **path) {
     size_t room = 0;
     *path = NULL;
-    uint32_t code = find_path(name, PREFIX, NULL, 0, &room);
+    uint32_t code = kumquatsieve_find_image(name, NULL, 0, &room, NULL);
     while (code == KUMQUATSIEVE_SHORT_BUFFER) {
         free(*path);
         *path = malloc(room);
         if (!*path) return false;
-        code = find_path(name, PREFIX, *path, room, &room);
+        code = kumquatsieve_find_image(name, *path, room, &room, NULL);
     }
     if (code == KUMQUATSIEVE_OK) return true;
     free(*path);
     *path = NULL;
     return code == KUMQUATSIEVE_FILE;
+}
+
+/* Sets *path to the path of the installed image with a bare name, whether or not the name is also
+   the path of a file. Otherwise as `find`. */
+static bool find_installed(const char *name, char **path) {
+    text_list all;
+    *path = NULL;
+    if (!make_list(kumquatsieve_list_images, &all)) return false;
+    bool has_memory = true;
+    for (size_t at = 0; at < all.length && !*path; at += strlen(all.first + at) + 1) {
+        size_t length = 0;
+        const char *bare = bare_name(all.first + at, &length);
+        if (length != strlen(name) || memcmp(bare, name, length) != 0) continue;
+        *path = strdup(all.first + at);
+        has_memory = *path != NULL;
+        if (!has_memory) break;
+    }
+    free(all.first);
+    return has_memory;
 }
 
 /* Returns the path of the image that was imported from a directory of MeCab's, which the caller
@@ -124,7 +136,7 @@ static char *imported(const char *folder, fault *error) {
     const char *path = realpath(folder, whole) ? whole : folder;
     const char *last = strrchr(path, '/') ? strrchr(path, '/') + 1 : path;
     char *name = strndup(last, length_of_name(last)), *image = NULL;
-    if (!name || !find(kumquatsieve_find_installed, name, &image))
+    if (!name || !find_installed(name, &image))
         fail_memory(error);
     else if (!image)
         fail_not_imported(error, folder, name);
@@ -135,10 +147,10 @@ static char *imported(const char *folder, fault *error) {
 /* Returns the path of the image with a name, which the caller frees, or NULL after an error. */
 static char *path_of(const char *name, fault *error) {
     char *path = NULL;
-    if (!find(kumquatsieve_find_image, name, &path))
+    if (!find(name, &path))
         fail_memory(error);
     else if (!path)
-        fail_missing(error, name, PREFIX);
+        fail_missing(error, name);
     return path;
 }
 
@@ -203,7 +215,7 @@ static char *chosen_name(const char *option, const char *setting, source from) {
     if (!chosen && named && *named) chosen = named;
     if (!chosen && from == USERS_SOURCE) chosen = setting;
     if (chosen) return strdup(chosen);
-    if (!find(kumquatsieve_find_installed, NAME, &own)) return NULL;
+    if (!find_installed(NAME, &own)) return NULL;
     if (own) return own;
     return strdup(setting ? setting : AWAITED);
 }

@@ -37,7 +37,7 @@ bool add_bytes(bytes *to, const char *from, size_t length);
 void free_bytes(bytes *of);
 
 /* fields.c. Splits a text in place into at most `most` fields. Returns their number. */
-size_t cut_fields(char *text, const char **fields, size_t most);
+size_t split_fields(char *text, const char **fields, size_t most);
 
 typedef struct setting {
     char *name;

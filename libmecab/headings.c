@@ -23,20 +23,20 @@ static bool read_from(int file, unsigned char *to, size_t length, off_t at) {
 
 static bool read_opened(int file, const char *path, heading *to, fault *error) {
     struct stat of;
-    if (fstat(file, &of) != 0) return fail(error, "%s: can't be read", path);
-    if (!S_ISREG(of.st_mode)) return fail(error, "%s: is no file", path);
+    if (fstat(file, &of) != 0) return fail(error, "%s: cannot be read", path);
+    if (!S_ISREG(of.st_mode)) return fail(error, "%s: not a regular file", path);
     *to = (heading){.which = identity_of(&of)};
     off_t checksum = of.st_size > CHECKSUM ? of.st_size - CHECKSUM : 0;
     bool is_read = read_from(file, to->header, HEADER, 0);
     is_read = is_read && read_from(file, to->checksum, CHECKSUM, checksum);
-    return is_read || fail(error, "%s: can't be read", path);
+    return is_read || fail(error, "%s: cannot be read", path);
 }
 
 /* Opens a pipe without waiting for a writer, and rejects it. */
 bool read_heading(heading *to, const char *path, fault *error) {
     int file = open(path, O_RDONLY | O_CLOEXEC | O_NONBLOCK | O_NOCTTY);
     if (file < 0) {
-        return fail(error, "%s: can't be opened; kumquatsieve-import makes an image", path);
+        return fail(error, "%s: cannot be opened; compile an image with kumquatsieve-import", path);
     }
     bool is_read = read_opened(file, path, to, error);
     close(file);

@@ -1,4 +1,4 @@
-/* Tells files apart, and a file from an earlier state of it. */
+/* Distinguishes files, and a file from its earlier states. */
 #include "layer.h"
 
 identity identity_of(const struct stat *of) {

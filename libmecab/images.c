@@ -65,8 +65,9 @@ static bool fail_image(fault *error, const char *path, const heading *of, uint32
     if (code == KUMQUATSIEVE_FILE) return fail(error, "%s: %s", path, strerror((int)number));
     if (!is_compiled_by_mecab(of)) return fail_code(error, path, code);
     return fail(error,
-                "%s is a dictionary of MeCab's: `dictc user --dic IMG --out USER.img USER.csv` "
-                "makes one of a user's source, kumquatsieve-import a system's",
+                "%s is a MeCab dictionary, not an image: compile the source of a user dictionary "
+                "with `dictc user --dic IMG --out USER.img USER.csv`, and those of a system "
+                "dictionary with kumquatsieve-import",
                 path);
 }
 
@@ -111,47 +112,40 @@ static bool has_changed(const char *path, const heading *before) {
     return !are_same(&before->which, &now);
 }
 
-/* The state of opening images. */
-typedef struct opening {
-    images *to;
-    char *const *paths;
-    kumquatsieve_cutter cutter;
-    bool is_changed;
-} opening;
-
-/* Adds an image to those before it. Sets `is_changed` and fails if the file was replaced or changed
-   since its header was read, because that may be the header of another file. */
-static bool open_image(opening *of, size_t number, fault *error) {
-    heading *first = &of->to->files[number];
-    const char *path = of->paths[number];
-    uint64_t why = 0;
-    if (!read_heading(first, path, error)) return false;
-    uint32_t code = number == 0 ? kumquatsieve_open(&of->cutter, path, 0, &why)
-                                : kumquatsieve_open_user(&of->cutter, path, 0, &why);
-    of->is_changed = has_changed(path, first);
-    if (of->is_changed) return fail(error, "%s: was changed while it was opened", path);
-    return code == KUMQUATSIEVE_OK || fail_image(error, path, first, code, why);
+/* Whether a file was replaced or changed since its header was read. */
+static bool is_any_changed(const images *of, char *const *paths) {
+    bool is_changed = false;
+    for (size_t i = 0; !is_changed && i < of->count; i++)
+        is_changed = has_changed(paths[i], &of->files[i]);
+    return is_changed;
 }
 
 /* Opens the images as one dictionary. The first one is the system image. Like MeCab, it tests no
-   checksum. */
-static bool open_all(opening *of, fault *error) {
-    uint32_t code = KUMQUATSIEVE_OK;
-    bool is_open = true;
-    for (size_t i = 0; is_open && i < of->to->count; i++) is_open = open_image(of, i, error);
-    if (is_open) code = kumquatsieve_dictionary_of(&of->to->dictionary, &of->cutter);
-    kumquatsieve_free(&of->cutter);
-    if (code != KUMQUATSIEVE_OK) return fail_code(error, "dictionaries", code);
-    return is_open && (keep_headers(of->to, of->paths) || fail_memory(error));
+   checksum. Sets *is_changed and fails if a file has changed since its header was read, because
+   that may be the header of another file. */
+static bool open_all(images *to, char *const *paths, bool *is_changed, fault *error) {
+    kumquatsieve_error why;
+    for (size_t i = 0; i < to->count; i++) {
+        if (!read_heading(&to->files[i], paths[i], error)) return false;
+    }
+    kumquatsieve_dictionary_release(to->dictionary);
+    to->dictionary = NULL;
+    uint32_t code = kumquatsieve_dictionary_open(
+        &to->dictionary, paths[0], (const char *const *)paths + 1, to->count - 1, 0, &why);
+    *is_changed = is_any_changed(to, paths);
+    if (*is_changed) return fail(error, "%s: changed while it was being opened", paths[0]);
+    if (code == KUMQUATSIEVE_MEMORY) return fail_memory(error);
+    if (code != KUMQUATSIEVE_OK)
+        return fail_image(error, paths[why.image], &to->files[why.image], code, why.number);
+    return keep_headers(to, paths) || fail_memory(error);
 }
 
 /* Starts again if a file was changed meanwhile, at most TRIES times. */
 static bool open_unchanged(images *to, char *const *paths, fault *error) {
-    opening of = {to, paths, KUMQUATSIEVE_EMPTY, true};
-    bool is_open = false;
-    for (int i = 0; of.is_changed && i < TRIES; i++) {
-        of.is_changed = false;
-        is_open = open_all(&of, error);
+    bool is_open = false, is_changed = true;
+    for (int i = 0; is_changed && i < TRIES; i++) {
+        is_changed = false;
+        is_open = open_all(to, paths, &is_changed, error);
     }
     return is_open;
 }
@@ -244,7 +238,9 @@ bool is_first_file(const images *of, const identity *which) {
 
 const mecab_dictionary_info_t *infos_of(const images *of) { return of->infos; }
 
-bool cutter_over_images(kumquatsieve_cutter *to, const images *from, fault *error) {
-    uint32_t code = kumquatsieve_cutter_over(to, from->dictionary);
+kumquatsieve_dictionary *dictionary_of(const images *of) { return of->dictionary; }
+
+bool segmenter_over_images(kumquatsieve_segmenter *to, const images *from, fault *error) {
+    uint32_t code = kumquatsieve_segmenter_open(to, from->dictionary, NULL);
     return code == KUMQUATSIEVE_OK || fail_code(error, "dictionaries", code);
 }

@@ -24,7 +24,7 @@ const format *format_of(const mecab_lattice_t *lattice) {
 
 void mecab_lattice_destroy(mecab_lattice_t *lattice) {
     if (!lattice) return;
-    kumquatsieve_free(&lattice->cutter);
+    kumquatsieve_segmenter_close(&lattice->segmenter);
     release_tables(lattice->tables);
     free_bytes(&lattice->own);
     free_bytes(&lattice->printed);
@@ -32,6 +32,8 @@ void mecab_lattice_destroy(mecab_lattice_t *lattice) {
     free(lattice->words);
     free(lattice->nodes);
     free(lattice->found);
+    free(lattice->entries);
+    free(lattice->looked_up);
     free(lattice->others);
     free(lattice->begins);
     free(lattice->ends);
@@ -48,7 +50,7 @@ void mecab_lattice_clear(mecab_lattice_t *lattice) {
     lattice->z = 0;
 }
 
-/* The sentence is not copied, unless the request type says so. (MeCab) */
+/* The sentence is copied only if the request type has MECAB_ALLOCATE_SENTENCE. (MeCab) */
 void mecab_lattice_set_sentence2(mecab_lattice_t *lattice, const char *sentence, size_t size) {
     mecab_lattice_clear(lattice);
     if (!sentence) return;

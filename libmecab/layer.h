@@ -1,9 +1,8 @@
-/* MeCab's C interface over kumquatsieve.h. It is not proved. docs/LIBMECAB.md says what each call
-   does; the calls are declared in MeCab's own header. */
+/* MeCab's C interface over kumquatsieve.h. It is not proved. docs/LIBMECAB.md describes each call.
+   The calls are declared in MeCab's own header. */
 #ifndef LAYER_H
 #define LAYER_H
 #include "formats.h"
-#include "odd.h"
 #include <kumquatsieve.h>
 #include <mecab.h>
 #include <stdatomic.h>
@@ -88,8 +87,10 @@ struct mecab_t {
 
 /* A sentence and, after a parse, its best path: the nodes from BOS to EOS. When they are first
    asked for, also its text in the format of its model, or in the default format, and the nodes of
-   the whole lattice, of which `others` are not on the path. The cutter is over the tables of the
-   tagger that parsed it last, and `chosen` is the number of the cutter's format, or 0.
+   the whole lattice, of which `others` are not on the path. The segmenter is over the tables of the
+   tagger that parsed it last, and `chosen` is the number of the segmenter's format, or 0.
+
+   `looked_up` has the nodes of mecab_model_lookup, and `entries` their words.
 
    - `is_odd`: the sentence was changed before it was segmented, or split
    - `has_long_word`: a word is too long for a node
@@ -99,7 +100,7 @@ struct mecab_t {
 struct mecab_lattice_t {
     mecab_model_t *model;
     tables *tables;
-    kumquatsieve_cutter cutter;
+    kumquatsieve_segmenter segmenter;
     unsigned long chosen;
     const char *sentence;
     size_t size;
@@ -117,12 +118,14 @@ struct mecab_lattice_t {
     mecab_node_t **begins;
     mecab_node_t **ends;
     size_t places_room;
-    size_t word_count;
-    int64_t total;
+    kumquatsieve_line line;
     size_t bad_bytes;
+    kumquatsieve_word *entries;
+    mecab_node_t *looked_up;
+    size_t entries_room;
     bytes printed;
     bytes listed;
-    bool is_cut;
+    bool is_segmented;
     bool is_odd;
     bool has_long_word;
     bool is_printed;
@@ -139,7 +142,7 @@ struct mecab_lattice_t {
 /* A setting that is 1 if an image has settings beside it. No option and no file can set it. */
 #define HAS_DICRC "=dicrc"
 
-/* Unless a comment says otherwise, a function with `error` sets it, and returns false or NULL,
+/* Unless a comment states otherwise, a function with `error` sets it, and returns false or NULL,
    after an error. */
 
 /* options.c. Read options from arguments, or from a line. */
@@ -154,8 +157,21 @@ bool read_beside(settings *to, const char *image, const unsigned char *checksum,
 char *find_user_image(const char *name, fault *error);
 char *beside(const char *image, const char *ending);
 
-/* missing.c. Reports that no image has a bare name. Returns false. */
-bool fail_missing(fault *error, const char *name, const char *prefix);
+/* missing.c. Texts one after another, each with its zero byte, and a call of the library that lists
+   them. */
+typedef struct text_list {
+    char *first;
+    size_t length;
+} text_list;
+
+typedef uint32_t list_call(char *texts, size_t room, size_t *needed, kumquatsieve_error *error);
+
+/* Makes the list of a call, whose `first` the caller frees. Returns false if memory runs out. */
+bool make_list(list_call *list_texts, text_list *list);
+/* Returns the bare name in the path of an image, and sets its length. */
+const char *bare_name(const char *path, size_t *length);
+/* Reports that no image has a bare name. Returns false. */
+bool fail_missing(fault *error, const char *name);
 
 /* lock.c. The lock that is held while images are opened. Like the next one, it is free in a child
    that was forked while another thread held it. */
@@ -183,13 +199,14 @@ bool is_first_file(const images *of, const identity *which);
 const mecab_dictionary_info_t *infos_of(const images *of);
 /* Returns the tokens of images by the file `rules`, or without rules. The images own them. */
 tokens *tokens_over(images *of, const char *rules, fault *error);
-bool cutter_over_images(kumquatsieve_cutter *to, const images *from, fault *error);
+bool segmenter_over_images(kumquatsieve_segmenter *to, const images *from, fault *error);
+kumquatsieve_dictionary *dictionary_of(const images *of);
 
 /* tokens.c. Returns the tokens in a list by the file `rules`, or without rules. */
 tokens *tokens_in(tokens **list, const size_t *starts, size_t count, const char *rules,
                   const unsigned char *checksum, fault *error);
 /* Makes the node of the token of a word, unless there is one. */
-bool keep_token(const tokens *of, kumquatsieve_cutter *cutter, const kumquatsieve_word *word,
+bool keep_token(const tokens *of, kumquatsieve_segmenter *segmenter, const kumquatsieve_word *word,
                 fault *error);
 void free_tokens(tokens *list);
 
@@ -204,14 +221,15 @@ void free_posids(posids *of);
 tables *load_tables(settings *from, fault *error);
 tables *hold_tables(mecab_model_t *model);
 void release_tables(tables *of);
-bool cutter_over_tables(kumquatsieve_cutter *to, const tables *from, fault *error);
+bool segmenter_over_tables(kumquatsieve_segmenter *to, const tables *from, fault *error);
 
 /* texts.c. The format of a lattice without a model. */
 const format *default_format(void);
-/* Sets the format of a cutter. Returns false if the library doesn't have it. */
-bool accepts_texts(kumquatsieve_cutter *cutter, const format *texts, fault *error);
-/* Sets *to to the format of the settings, which it checks with the cutter. */
-bool choose_texts(format *to, const settings *from, kumquatsieve_cutter *cutter, fault *error);
+/* Sets the format of a segmenter. Returns false if the library doesn't have it. */
+bool accepts_texts(kumquatsieve_segmenter *segmenter, const format *texts, fault *error);
+/* Sets *to to the format of the settings, which it checks with the segmenter. */
+bool choose_texts(format *to, const settings *from, kumquatsieve_segmenter *segmenter,
+                  fault *error);
 void free_texts(format *of);
 
 /* printer.c. Adds a node in the format of its status. */
@@ -233,20 +251,24 @@ bool parse_own(mecab_t *tagger, const char *text, size_t length, int request, bo
 /* lattice.c. Returns the format of a lattice. */
 const format *format_of(const mecab_lattice_t *lattice);
 
-/* A part of a sentence that is segmented by itself: it starts at `at` of the text, after words that
-   end at `place` of the sentence and have the cost `cost`. Without a text it is the whole sentence,
-   unchanged. */
+/* A part of a sentence that is segmented by itself: it starts at `at` of the sentence, after words
+   that end at `place` and have the cost `cost`. If `is_whole`, it is the whole sentence. */
 typedef struct part {
-    repaired *text;
+    bool is_whole;
     size_t at;
     size_t place;
     long cost;
-    size_t word_count;
-    int64_t total;
+    kumquatsieve_line line;
 } part;
 
-/* nodes.c */
-void add_cost(part *of);
+/* nodes.c. Sets the node of a word that is not on the best path. */
+bool make_other(mecab_lattice_t *lattice, mecab_node_t *node, const kumquatsieve_word *word,
+                const char *text, fault *error);
+/* Replaces the features of unknown words by the setting `unk-feature`. */
+void exchange_features(const char *feature, mecab_node_t *nodes, size_t count);
+
+/* Moves behind the part. */
+void end_part(part *of);
 bool fit_in_node(kumquatsieve_word *word);
 bool add_nodes(mecab_lattice_t *lattice, part *of, fault *error);
 
@@ -274,7 +296,11 @@ bool add_odd(mecab_lattice_t *lattice, long *cost, fault *error);
 /* Adds the words of the whole lattice of such a sentence to `found`. */
 bool find_odd(mecab_lattice_t *lattice, fault *error);
 
-/* parsing.c. Forgets the result of the last parse. */
+/* parsing.c. Makes the segmenter of a lattice, if it has none yet, or the dictionaries of the model
+   were swapped since. */
+bool take_tables(mecab_model_t *model, mecab_lattice_t *lattice, fault *error);
+
+/* Forgets the result of the last parse. */
 void forget_path(mecab_lattice_t *lattice);
 
 /* Parses the sentence of a lattice. `nodes` is whether nodes are needed. */

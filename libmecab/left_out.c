@@ -47,9 +47,3 @@ int mecab_model_transition_cost(mecab_model_t *model, unsigned short right, unsi
     fail_left_out(common_fault(), "mecab_model_transition_cost");
     return 0;
 }
-
-mecab_node_t *mecab_model_lookup(mecab_model_t *model, const char *begin, const char *end,
-                                 mecab_lattice_t *lattice) {
-    fail_left_out(lattice ? &lattice->error : common_fault(), "mecab_model_lookup");
-    return NULL;
-}

@@ -33,10 +33,10 @@ static int request_of(const settings *from) {
 
 /* Chooses the format, and checks it over the dictionaries before there is a sentence. */
 static bool take_texts(mecab_model_t *model, const settings *from, fault *error) {
-    kumquatsieve_cutter cutter = KUMQUATSIEVE_EMPTY;
-    if (!cutter_over_tables(&cutter, model->tables, error)) return false;
-    bool chosen = choose_texts(&model->texts, from, &cutter, error);
-    kumquatsieve_free(&cutter);
+    kumquatsieve_segmenter segmenter = KUMQUATSIEVE_EMPTY;
+    if (!segmenter_over_tables(&segmenter, model->tables, error)) return false;
+    bool chosen = choose_texts(&model->texts, from, &segmenter, error);
+    kumquatsieve_segmenter_close(&segmenter);
     return chosen;
 }
 

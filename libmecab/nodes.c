@@ -1,6 +1,7 @@
 /* MeCab's nodes of the words of a sentence. */
 #include "layer.h"
 #include <stdlib.h>
+#include <string.h>
 
 static bool grow_words(mecab_lattice_t *lattice, size_t wanted, fault *error) {
     size_t room = 2 * wanted + 8;
@@ -20,28 +21,35 @@ static bool grow_nodes(mecab_lattice_t *lattice, size_t wanted, fault *error) {
     return true;
 }
 
-/* Makes room for `count` words, and for further nodes of them and of the end. */
+/* Makes room for further nodes of `count` words and of the end. */
 static bool has_room(mecab_lattice_t *lattice, size_t count, fault *error) {
     size_t wanted = lattice->count + count + 1;
-    if (count > lattice->words_room && !grow_words(lattice, count, error)) return false;
     return wanted <= lattice->nodes_room || grow_nodes(lattice, wanted, error);
 }
 
-/* Adds the cost of a part to the cost of the parts before it. A part of blanks only has none. */
-void add_cost(part *of) {
-    if (of->word_count > 0) of->cost += (long)of->total;
+/* Copies words that are changed, because the library's own can't be. */
+static bool copy_words(mecab_lattice_t *lattice, const kumquatsieve_word *words, size_t count,
+                       fault *error) {
+    if (count > lattice->words_room && !grow_words(lattice, count, error)) return false;
+    if (count > 0) memcpy(lattice->words, words, count * sizeof *words);
+    return true;
 }
 
-/* Changes the places and costs of words of a part to those of the whole sentence. A word starts,
-   with its blanks, where the word before it ended. */
+/* A part of blanks only has no cost. */
+void end_part(part *of) {
+    if (of->line.count > 0) of->cost += (long)of->line.total;
+    of->at = of->line.end;
+}
+
+/* Changes the costs of words of a part to those of the whole sentence. A word starts, with its
+   blanks, where the word before it ended. */
 static void move_words(kumquatsieve_word *words, size_t count, part *of) {
     for (size_t i = 0; i < count; i++) {
         words[i].place = of->place;
-        words[i].start = given_at(of->text, of->at + words[i].start);
-        words[i].end = of->place = given_at(of->text, of->at + words[i].end);
         words[i].total += of->cost;
+        of->place = words[i].end;
     }
-    add_cost(of);
+    end_part(of);
 }
 
 /* Makes a word fit in a node, which has 16 bits for its length with its blanks: drops the first of
@@ -88,22 +96,21 @@ static size_t set_nodes(const tokens *of, mecab_node_t *node, size_t id,
     return (size_t)(word - words);
 }
 
-/* Replaces the features of unknown words by the setting `unk-feature`. */
-static void exchange_features(const char *feature, mecab_node_t *nodes, size_t count) {
+void exchange_features(const char *feature, mecab_node_t *nodes, size_t count) {
     for (size_t i = 0; i < count; i++) {
         if (nodes[i].stat == MECAB_UNK_NODE) nodes[i].feature = feature;
     }
 }
 
 /* Sets the nodes of all words that were segmented last. */
-static bool set_all(mecab_lattice_t *lattice, mecab_node_t *nodes, size_t count, fault *error) {
+static bool set_all(mecab_lattice_t *lattice, mecab_node_t *nodes, const kumquatsieve_word *words,
+                    size_t count, fault *error) {
     const tokens *of = lattice->tables->tokens;
     for (size_t done = 0;;) {
-        const kumquatsieve_word *words = lattice->words + done;
-        done += set_nodes(of, nodes + done, lattice->count + done, words, count - done,
+        done += set_nodes(of, nodes + done, lattice->count + done, words + done, count - done,
                           lattice->sentence);
         if (done == count) break;
-        if (!keep_token(of, &lattice->cutter, &lattice->words[done], error)) return false;
+        if (!keep_token(of, &lattice->segmenter, &words[done], error)) return false;
     }
     if (lattice->tables->unk_feature) exchange_features(lattice->tables->unk_feature, nodes, count);
     return true;
@@ -111,23 +118,29 @@ static bool set_all(mecab_lattice_t *lattice, mecab_node_t *nodes, size_t count,
 
 /* Adds the nodes of the part that was segmented last after those of the parts before it. */
 bool add_nodes(mecab_lattice_t *lattice, part *of, fault *error) {
-    size_t count = of->word_count;
-    if (!has_room(lattice, count, error)) return false;
-    uint32_t code = kumquatsieve_words(&lattice->cutter, 0, lattice->words, count, &count);
+    const kumquatsieve_word *words = NULL;
+    size_t count = 0;
+    bool is_long = lattice->size > UINT16_MAX;
+    uint32_t code = kumquatsieve_words(&lattice->segmenter, &words, &count, NULL);
     if (code != KUMQUATSIEVE_OK) return fail_code(error, "words", code);
-    if (of->text) move_words(lattice->words, count, of);
-    if (lattice->size > UINT16_MAX && !fit_all(lattice->words, count)) {
+    if (!has_room(lattice, count, error)) return false;
+    if (!of->is_whole || is_long) {
+        if (!copy_words(lattice, words, count, error)) return false;
+        words = lattice->words;
+    }
+    if (!of->is_whole) move_words(lattice->words, count, of);
+    if (is_long && !fit_all(lattice->words, count)) {
         lattice->has_long_word = true;
         return false;
     }
-    if (!set_all(lattice, &lattice->nodes[lattice->count], count, error)) return false;
+    if (!set_all(lattice, &lattice->nodes[lattice->count], words, count, error)) return false;
     lattice->count += count;
     return true;
 }
 
 static bool add_whole(mecab_lattice_t *lattice, long *cost, fault *error) {
-    part whole = {.word_count = lattice->word_count};
-    *cost = (long)lattice->total;
+    part whole = {.is_whole = true};
+    *cost = (long)lattice->line.total;
     return add_nodes(lattice, &whole, error);
 }
 
@@ -187,11 +200,11 @@ static bool has_others_room(mecab_lattice_t *lattice, fault *error) {
     return true;
 }
 
-static bool make_other(mecab_lattice_t *lattice, mecab_node_t *node, const kumquatsieve_word *word,
-                       fault *error) {
+bool make_other(mecab_lattice_t *lattice, mecab_node_t *node, const kumquatsieve_word *word,
+                const char *text, fault *error) {
     const tokens *of = lattice->tables->tokens;
-    while (!set_node(of, node, word, lattice->sentence)) {
-        if (!keep_token(of, &lattice->cutter, word, error)) return false;
+    while (!set_node(of, node, word, text)) {
+        if (!keep_token(of, &lattice->segmenter, word, error)) return false;
     }
     node->isbest = 0;
     return true;
@@ -204,7 +217,7 @@ bool make_others(mecab_lattice_t *lattice, fault *error) {
     for (size_t i = 0; i < lattice->found_count; i++) {
         const kumquatsieve_node *found = &lattice->found[i];
         if (found->on_best) continue;
-        if (!make_other(lattice, node, &found->word, error)) return false;
+        if (!make_other(lattice, node, &found->word, lattice->sentence, error)) return false;
         node++;
     }
     const char *feature = lattice->tables->unk_feature;

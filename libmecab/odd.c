@@ -1,29 +1,47 @@
-/* Segments sentences that the library rejects: replaces bytes that are not UTF-8, and splits
-   sentences that are too long. */
+/* Segments sentences that the library's call for a line rejects, because they are not UTF-8 or too
+   long, and sentences with a word that is too long for a node, part by part. */
 #include "layer.h"
 #include <string.h>
-
-/* The most bytes of a part: what the library accepts, and what has no word of more than 65,535
-   bytes of the sentence. A pair of surrogates in six bytes is segmented as a character of four. */
-enum { PART_MAX = 1048576, SHORT_PART_MAX = UINT16_MAX / 6 * 4 };
 
 /* A function that takes the result of each part. */
 typedef bool take(mecab_lattice_t *lattice, part *of, fault *error);
 
-static bool cut_part(mecab_lattice_t *lattice, part *of, size_t length, take *from, fault *error) {
-    const uint8_t *text = (const uint8_t *)of->text->text.at + of->at;
-    uint32_t code =
-        kumquatsieve_cut_text(&lattice->cutter, text, length, &of->word_count, &of->total, NULL);
-    return code == KUMQUATSIEVE_OK ? from(lattice, of, error) : fail_code(error, "sentence", code);
+/* A pair of surrogates has so many bytes. */
+enum { CHARACTER_MOST = 6 };
+
+static const char FULL_STOP[] = "\xe3\x80\x82";
+
+/* Whether a byte is the second one or a later one of a character, or the first one of the second of
+   two surrogates. */
+static bool is_inside(const char *at) {
+    const unsigned char *bytes = (const unsigned char *)at;
+    return (bytes[0] & 0xc0) == 0x80 || (bytes[0] == 0xed && bytes[1] >= 0xb0);
 }
 
-static bool cut_parts(mecab_lattice_t *lattice, part *of, take *from, fault *error) {
-    const bytes *text = &of->text->text;
-    size_t most = lattice->has_long_word ? SHORT_PART_MAX : PART_MAX;
-    while (of->at < text->length) {
-        size_t length = part_of(text->at + of->at, text->length - of->at, most);
-        if (!cut_part(lattice, of, length, from, error)) return false;
-        of->at += length;
+/* Returns the end of a part of at most UINT16_MAX bytes, which has no longer word: after the last
+   full stop, or else between two characters. */
+static size_t short_end(const char *text, size_t at, size_t size) {
+    size_t end = at + UINT16_MAX, stop = strlen(FULL_STOP);
+    if (end + 1 >= size) return end < size ? end : size;
+    for (size_t last = end; last >= at + stop; last--) {
+        if (memcmp(text + last - stop, FULL_STOP, stop) == 0) return last;
+    }
+    size_t whole = end;
+    while (whole + CHARACTER_MOST > end && is_inside(text + whole)) whole--;
+    return is_inside(text + whole) ? end : whole;
+}
+
+/* The words have the places of the sentence as it was given. */
+static bool segment_parts(mecab_lattice_t *lattice, part *of, take *from, fault *error) {
+    lattice->bad_bytes = 0;
+    while (of->at < lattice->size) {
+        size_t end = lattice->has_long_word ? short_end(lattice->sentence, of->at, lattice->size)
+                                            : lattice->size;
+        uint32_t code = kumquatsieve_segment_text(&lattice->segmenter, lattice->sentence, end,
+                                                  of->at, KUMQUATSIEVE_WHOLE, &of->line, NULL);
+        if (code != KUMQUATSIEVE_OK) return fail_code(error, "sentence", code);
+        lattice->bad_bytes += of->line.replaced;
+        if (!from(lattice, of, error)) return false;
     }
     return true;
 }
@@ -32,27 +50,18 @@ bool is_odd(uint32_t code) {
     return code == KUMQUATSIEVE_NOT_UTF8 || code == KUMQUATSIEVE_TOO_LONG;
 }
 
-/* The nodes have the bytes of the sentence as it was given. */
 bool add_odd(mecab_lattice_t *lattice, long *cost, fault *error) {
-    repaired text = {0};
-    part one = {.text = &text};
-    bool is_cut = repair(&text, lattice->sentence, lattice->size) || fail_memory(error);
-    is_cut = is_cut && cut_parts(lattice, &one, add_nodes, error);
-    lattice->bad_bytes = text.bad;
-    if (is_cut && text.bad > 0)
-        fail(error, "%zu bytes that are not UTF-8 were cut as U+FFFD", text.bad);
-    *cost = lattice->count > 1 ? one.cost : (long)one.total;
-    free_repaired(&text);
-    return is_cut;
+    part one = {.is_whole = false};
+    bool is_segmented = segment_parts(lattice, &one, add_nodes, error);
+    if (is_segmented && lattice->bad_bytes > 0)
+        fail(error, "%zu bytes that are not UTF-8 were segmented as U+FFFD", lattice->bad_bytes);
+    *cost = lattice->count > 1 ? one.cost : (long)one.line.total;
+    return is_segmented;
 }
 
 /* Segments the parts once more, because the library has the lattice of a part only until the next
    one is segmented. */
 bool find_odd(mecab_lattice_t *lattice, fault *error) {
-    repaired text = {0};
-    part one = {.text = &text};
-    bool is_found = repair(&text, lattice->sentence, lattice->size) || fail_memory(error);
-    is_found = is_found && cut_parts(lattice, &one, add_found, error);
-    free_repaired(&text);
-    return is_found;
+    part one = {.is_whole = false};
+    return segment_parts(lattice, &one, add_found, error);
 }

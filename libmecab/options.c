@@ -67,13 +67,13 @@ static int read_option(settings *to, int i, int count, char *const *words, fault
     const char *name = KNOWN[found].name;
     bool has_value = words[i][value_at] != '\0' || words[i][value_at - 1] == '=';
     if (!KNOWN[found].has_value && has_value) {
-        fail(error, "%s: it takes no value", words[i]);
+        fail(error, "%s: takes no value", words[i]);
         return 0;
     }
     if (!KNOWN[found].has_value) return set(to, name, "1", error) ? 1 : 0;
     if (has_value) return set(to, name, words[i] + value_at, error) ? 1 : 0;
     if (i + 1 == count) {
-        fail(error, "%s: its value is missing", words[i]);
+        fail(error, "%s: a value is required", words[i]);
         return 0;
     }
     return set(to, name, words[i + 1], error) ? 2 : 0;
@@ -97,7 +97,7 @@ bool read_options(settings *to, int count, char *const *words, fault *error) {
 
 /* Splits a line at blanks into words[1] and the following. Quotes have no meaning. (MeCab) Returns
    the number of words, the program's name included. */
-static int cut_words(char *line, char **words) {
+static int split_words(char *line, char **words) {
     int count = 1;
     for (char *at = line; *at;) {
         while (isspace((unsigned char)*at)) at++;
@@ -116,7 +116,7 @@ bool read_options_of(settings *to, const char *line, fault *error) {
     bool read = false;
     if (words) {
         words[0] = program;
-        read = read_options(to, cut_words(copy, words), words, error);
+        read = read_options(to, split_words(copy, words), words, error);
         to->other_count = 0;
     } else {
         fail_memory(error);

@@ -2,19 +2,17 @@
 #include "layer.h"
 #include <string.h>
 
-/* Makes the cutter of a lattice, if it has none yet, or the dictionaries of the model were swapped
-   since. */
-static bool take_tables(mecab_model_t *model, mecab_lattice_t *lattice, fault *error) {
+bool take_tables(mecab_model_t *model, mecab_lattice_t *lattice, fault *error) {
     if (lattice->tables && lattice->tables->number == model->number) return true;
-    kumquatsieve_cutter cutter = KUMQUATSIEVE_EMPTY;
+    kumquatsieve_segmenter segmenter = KUMQUATSIEVE_EMPTY;
     tables *taken = hold_tables(model);
-    if (!cutter_over_tables(&cutter, taken, error)) {
+    if (!segmenter_over_tables(&segmenter, taken, error)) {
         release_tables(taken);
         return false;
     }
-    kumquatsieve_free(&lattice->cutter);
+    kumquatsieve_segmenter_close(&lattice->segmenter);
     release_tables(lattice->tables);
-    lattice->cutter = cutter;
+    lattice->segmenter = segmenter;
     lattice->tables = taken;
     lattice->chosen = 0;
     return true;
@@ -31,8 +29,8 @@ static bool is_had(const mecab_lattice_t *lattice, bool nodes, fault *error) {
 }
 
 void forget_path(mecab_lattice_t *lattice) {
-    lattice->count = lattice->word_count = lattice->bad_bytes = 0;
-    lattice->is_cut = lattice->is_odd = lattice->has_long_word = lattice->is_printed = false;
+    lattice->count = lattice->bad_bytes = 0;
+    lattice->is_segmented = lattice->is_odd = lattice->has_long_word = lattice->is_printed = false;
     lattice->is_placed = lattice->is_chained = lattice->is_told = false;
 }
 
@@ -40,26 +38,25 @@ bool parse(mecab_model_t *model, mecab_lattice_t *lattice, bool nodes, fault *er
     forget_path(lattice);
     error->text[0] = '\0';
     if (!is_had(lattice, nodes, error) || !take_tables(model, lattice, error)) return false;
-    const uint8_t *sentence = (const uint8_t *)lattice->sentence;
-    uint32_t code = kumquatsieve_cut_text(&lattice->cutter, sentence, lattice->size,
-                                          &lattice->word_count, &lattice->total, NULL);
+    uint32_t code = kumquatsieve_segment(&lattice->segmenter, lattice->sentence, lattice->size,
+                                         KUMQUATSIEVE_WHOLE, &lattice->line, NULL);
     lattice->is_odd = code != KUMQUATSIEVE_OK && is_odd(code);
     if (code != KUMQUATSIEVE_OK && !lattice->is_odd) return fail_code(error, "sentence", code);
     if ((nodes || lattice->is_odd) && !make_nodes(lattice, error)) return false;
-    lattice->is_cut = true;
+    lattice->is_segmented = true;
     if (!(lattice->request & MECAB_ALL_MORPHS) || chain_all(lattice, error)) return true;
     forget_path(lattice);
     return false;
 }
 
 static bool print_into(mecab_lattice_t *lattice, const format *texts, fault *error) {
-    const uint8_t *text = NULL;
+    const char *text = NULL;
     size_t length = 0;
     if (lattice->chosen != texts->number) {
-        if (!accepts_texts(&lattice->cutter, texts, error)) return false;
+        if (!accepts_texts(&lattice->segmenter, texts, error)) return false;
         lattice->chosen = texts->number;
     }
-    uint32_t code = kumquatsieve_print(&lattice->cutter, &text, &length);
+    uint32_t code = kumquatsieve_print(&lattice->segmenter, &text, &length, NULL);
     if (code != KUMQUATSIEVE_OK) return fail_code(error, "printing", code);
     return set_bytes(&lattice->printed, text, length) || fail_memory(error);
 }
@@ -78,7 +75,7 @@ static bool print_text(mecab_lattice_t *lattice, fault *error) {
 
 /* The text is printed when it is first asked for. */
 const char *text_of(mecab_lattice_t *lattice, fault *error) {
-    if (!lattice->is_cut) {
+    if (!lattice->is_segmented) {
         fail(error, "no sentence was parsed");
         return NULL;
     }

@@ -1,8 +1,8 @@
-/* Arrays of the nodes of the lattice by the places where they start and end. */
+/* Arrays of the nodes of the lattice, by the positions at which they start and end. */
 #include "layer.h"
 #include <stdlib.h>
 
-/* How many places MeCab's arrays have beyond the sentence. */
+/* The number of positions that MeCab's arrays have beyond the sentence. */
 enum { BEYOND = 4 };
 
 static bool has_room(mecab_lattice_t *lattice, fault *error) {
@@ -76,7 +76,7 @@ static bool place_nodes(mecab_lattice_t *lattice, fault *error) {
 /* Makes the arrays when they are first asked for. Before a parse no place has a node. */
 static bool has_places(mecab_lattice_t *lattice, fault *error) {
     if (lattice->is_placed) return true;
-    if (lattice->is_cut)
+    if (lattice->is_segmented)
         lattice->is_placed = place_nodes(lattice, error);
     else if ((lattice->is_placed = has_room(lattice, error)))
         clear(lattice);

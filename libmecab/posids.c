@@ -28,7 +28,7 @@ struct posids {
 
 static bool add_fields_of(rule *to, fault *error) {
     const char *fields[FIELD_MAX];
-    to->field_count = cut_fields(to->text, fields, FIELD_MAX);
+    to->field_count = split_fields(to->text, fields, FIELD_MAX);
     to->fields = malloc((to->field_count + 1) * sizeof *to->fields);
     if (!to->fields) return fail_memory(error);
     memcpy(to->fields, fields, to->field_count * sizeof *fields);
@@ -66,7 +66,8 @@ static bool read_rule(posids *to, const char *line, fault *error) {
     size_t length = strcspn(pattern, " \t");
     const char *number = pattern + length + strspn(pattern + length, " \t");
     char *end = NULL;
-    if (length == 0 || *number < '0' || *number > '9') return fail(error, "no pattern and number");
+    if (length == 0 || *number < '0' || *number > '9')
+        return fail(error, "expected a pattern and a number");
     unsigned long id = strtoul(number, &end, 10);
     if ((*end && *end != ' ' && *end != '\t') || id > UINT16_MAX)
         return fail(error, "not a number up to %d: %.100s", UINT16_MAX, number);
@@ -185,7 +186,7 @@ static uint16_t id_by_fields(const posids *of, const char *const *fields, size_t
 uint16_t posid_of(const posids *of, char *feature) {
     const char *fields[FIELD_MAX];
     size_t most = of->longest < FIELD_MAX ? of->longest + 1 : FIELD_MAX;
-    return id_by_fields(of, fields, cut_fields(feature, fields, most));
+    return id_by_fields(of, fields, split_fields(feature, fields, most));
 }
 
 void free_posids(posids *of) {

@@ -46,7 +46,7 @@ static bool find_fields(printing *of, fault *error) {
     if (!of->fields) return fail_memory(error);
     char *copy = (char *)(of->fields + most);
     memcpy(copy, feature, size);
-    of->field_count = cut_fields(copy, of->fields, most);
+    of->field_count = split_fields(copy, of->fields, most);
     return true;
 }
 
@@ -65,7 +65,7 @@ static bool put_fields(printing *of, const item **at, const item *end, fault *er
 
 static bool put_cost(printing *of, kind which, fault *error) {
     const mecab_node_t *node = of->node;
-    if (!node->prev) return fail(error, "there is no connection before the beginning");
+    if (!node->prev) return fail(error, "BOS has no preceding connection");
     return put_number(
         of, node->cost - node->prev->cost - (which == CONNECTION_COST ? node->wcost : 0), error);
 }

@@ -33,7 +33,7 @@ static void count_bad(tally *bad, const mecab_t *tagger) {
     bad->lines += tagger->lattice->bad_bytes > 0;
 }
 
-static int cut_lines(mecab_t *tagger, int from, FILE *to, tally *bad) {
+static int segment_lines(mecab_t *tagger, int from, FILE *to, tally *bad) {
     lines all = {.from = from};
     const char *line = NULL;
     size_t length = 0;
@@ -50,28 +50,29 @@ static int cut_lines(mecab_t *tagger, int from, FILE *to, tally *bad) {
     return is_good ? 0 : 1;
 }
 
-static int cut_file(mecab_t *tagger, const char *path, FILE *to, tally *bad) {
-    if (strcmp(path, "-") == 0) return cut_lines(tagger, STDIN_FILENO, to, bad);
+static int segment_file(mecab_t *tagger, const char *path, FILE *to, tally *bad) {
+    if (strcmp(path, "-") == 0) return segment_lines(tagger, STDIN_FILENO, to, bad);
     int from = open(path, O_RDONLY | O_CLOEXEC);
     if (from < 0) return report_file(path);
-    int status = cut_lines(tagger, from, to, bad);
+    int status = segment_lines(tagger, from, to, bad);
     close(from);
     return status;
 }
 
-static int cut_files(mecab_t *tagger, int count, char **paths, FILE *to) {
+static int segment_files(mecab_t *tagger, int count, char **paths, FILE *to) {
     static const char *const INPUT[] = {"-"};
     tally bad = {0, 0};
     int status = 0;
     for (int i = 0; status == 0 && i < (count > 0 ? count : 1); i++)
-        status = cut_file(tagger, count > 0 ? paths[i] : INPUT[0], to, &bad);
+        status = segment_file(tagger, count > 0 ? paths[i] : INPUT[0], to, &bad);
     if (bad.bytes > 0)
-        fprintf(stderr, "mecab: %zu bytes in %zu lines are not UTF-8, and were cut as U+FFFD\n",
+        fprintf(stderr,
+                "mecab: %zu bytes in %zu lines are not UTF-8, and were segmented as U+FFFD\n",
                 bad.bytes, bad.lines);
     return status;
 }
 
-static int tell_dictionaries(const mecab_dictionary_info_t *info, FILE *to) {
+static int print_dictionaries(const mecab_dictionary_info_t *info, FILE *to) {
     for (; info; info = info->next) {
         fprintf(to, "filename:\t%s\nversion:\t%u\ncharset:\t%s\n", info->filename, info->version,
                 info->charset);
@@ -81,14 +82,14 @@ static int tell_dictionaries(const mecab_dictionary_info_t *info, FILE *to) {
     return 0;
 }
 
-static int cut_into(mecab_t *tagger, const settings *from, FILE *to) {
+static int segment_into(mecab_t *tagger, const settings *from, FILE *to) {
     long nbest = number_of(from, "nbest", 1);
     if (nbest <= 0) return report("invalid N value");
     if (is_set(from, "dump-config"))
         return report("-P is not supported by libmecab over Kumquatsieve");
     if (is_set(from, "dictionary-info"))
-        return tell_dictionaries(mecab_dictionary_info(tagger), to);
-    return cut_files(tagger, from->other_count, from->others, to);
+        return print_dictionaries(mecab_dictionary_info(tagger), to);
+    return segment_files(tagger, from->other_count, from->others, to);
 }
 
 static int run(settings *from) {
@@ -102,7 +103,7 @@ static int run(settings *from) {
     else if (!to)
         status = report_file(path);
     else
-        status = cut_into(tagger, from, to);
+        status = segment_into(tagger, from, to);
     if (to && fflush(to) != 0 && status == 0) status = report("a write failed");
     if (to && to != stdout && fclose(to) != 0 && status == 0) status = report("a write failed");
     mecab_destroy(tagger);
@@ -110,12 +111,12 @@ static int run(settings *from) {
     return status;
 }
 
-static void tell_help(void) {
-    printf("Usage: mecab [options] files\n"
-           "MeCab's library over Kumquatsieve. Of MeCab's options it takes -a, -d, -u, -r, -O, -F, "
-           "-U, -B, -E, -S, -x, -M, -N 1, -o, -C, -D, -v\n"
-           "and -h; -b, -c, -l, -m and -t are taken, and change no text; -p, -P and -N above 1 are "
-           "refused.\n\n");
+static void print_help(void) {
+    printf(
+        "Usage: mecab [options] files\n"
+        "MeCab's library over Kumquatsieve. It supports MeCab's options -a, -d, -u, -r, -O, -F,\n"
+        "-U, -B, -E, -S, -x, -M, -N 1, -o, -C, -D, -v and -h. It accepts -b, -c, -l, -m and -t\n"
+        "without effect on the output, and rejects -p, -P and -N above 1.\n\n");
 }
 
 int mecab_do(int count, char **words) {
@@ -124,7 +125,7 @@ int mecab_do(int count, char **words) {
     if (!read_options(&from, count, words, common_fault()))
         status = report(common_fault()->text);
     else if (is_set(&from, "help"))
-        tell_help();
+        print_help();
     else if (is_set(&from, "version"))
         printf("mecab of %s\n\n", mecab_version());
     else

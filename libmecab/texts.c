@@ -9,7 +9,7 @@ static const char *const PARTS[PART_COUNT] = {"node-format", "unk-format", "bos-
                                               "eos-format", "eon-format"};
 static const char *const DEFAULTS[PART_COUNT] = {NODE, NODE, "", EOS, ""};
 
-/* The numbers of formats start at 1. 0 means that a lattice's cutter has no format yet. */
+/* The numbers of formats start at 1. 0 means that a lattice's segmenter has no format yet. */
 static atomic_ulong last_number = 1;
 static const format LINES = {
     .style = LINES_STYLE, .texts = {NODE, NODE, "", EOS, ""}, .number = 1, .is_proved = true};
@@ -19,18 +19,12 @@ static const format NONE = {.style = NO_STYLE, .texts = {"", "", "", "", ""}, .i
 
 const format *default_format(void) { return &LINES; }
 
-bool accepts_texts(kumquatsieve_cutter *cutter, const format *texts, fault *error) {
-    uint32_t part = 0;
-    size_t at = 0;
-    const uint8_t *of[4];
-    size_t lengths[4];
-    for (int i = 0; i < 4; i++) {
-        of[i] = (const uint8_t *)texts->texts[i];
-        lengths[i] = strlen(texts->texts[i]);
-    }
-    uint32_t code = kumquatsieve_set_format(cutter, of[0], lengths[0], of[1], lengths[1], of[2],
-                                            lengths[2], of[3], lengths[3], &part, &at);
-    return code == KUMQUATSIEVE_OK || fail_code(error, PARTS[part & 3], code);
+bool accepts_texts(kumquatsieve_segmenter *segmenter, const format *texts, fault *error) {
+    kumquatsieve_error why;
+    const char *const *of = texts->texts;
+    uint32_t code = kumquatsieve_set_format(segmenter, of[NODE_PART], of[UNK_PART], of[BOS_PART],
+                                            of[EOS_PART], &why);
+    return code == KUMQUATSIEVE_OK || fail_code(error, PARTS[why.number & 3], code);
 }
 
 /* Returns the setting of a part, or its default. With a style, returns the setting of the part and
@@ -54,7 +48,7 @@ static bool is_default(const char *const texts[]) {
 }
 
 /* Parses a format. The library prints it, if it has all items, and print_path does otherwise. */
-static bool read_own(format *to, const char *const texts[], kumquatsieve_cutter *cutter,
+static bool read_own(format *to, const char *const texts[], kumquatsieve_segmenter *segmenter,
                      fault *error) {
     fault refused;
     for (int i = 0; i < PART_COUNT; i++) {
@@ -63,24 +57,25 @@ static bool read_own(format *to, const char *const texts[], kumquatsieve_cutter 
         if (!read_items(&to->items[i], texts[i], PARTS[i], error)) return false;
     }
     to->style = OWN_STYLE;
-    to->is_proved = accepts_texts(cutter, to, &refused);
+    to->is_proved = accepts_texts(segmenter, to, &refused);
     return true;
 }
 
 /* The default format of unknown words means the format of known words. (MeCab) */
 static bool choose_own(format *to, const settings *from, const char *style,
-                       kumquatsieve_cutter *cutter, fault *error) {
+                       kumquatsieve_segmenter *segmenter, fault *error) {
     const char *texts[PART_COUNT];
     for (int i = 0; i < PART_COUNT; i++) texts[i] = text_in(from, i, style);
     if (*style && !*texts[NODE_PART]) return fail(error, "unknown format type [%.200s]", style);
     if (strcmp(texts[UNK_PART], NODE) == 0) texts[UNK_PART] = texts[NODE_PART];
-    if (!is_default(texts)) return read_own(to, texts, cutter, error);
+    if (!is_default(texts)) return read_own(to, texts, segmenter, error);
     *to = LINES;
     return true;
 }
 
 /* With a style of MeCab's own the formats are ignored. (MeCab) */
-bool choose_texts(format *to, const settings *from, kumquatsieve_cutter *cutter, fault *error) {
+bool choose_texts(format *to, const settings *from, kumquatsieve_segmenter *segmenter,
+                  fault *error) {
     const char *style = setting_of(from, "output-format-type");
     if (!style) style = "";
     if (strcmp(style, "dump") == 0) return fail_left_out(error, "the output format type dump");
@@ -91,7 +86,7 @@ bool choose_texts(format *to, const settings *from, kumquatsieve_cutter *cutter,
     else if (strcmp(style, "none") == 0)
         *to = NONE;
     else
-        chosen = choose_own(to, from, style, cutter, error);
+        chosen = choose_own(to, from, style, segmenter, error);
     to->number = ++last_number;
     return chosen;
 }

@@ -69,13 +69,13 @@ tokens *tokens_in(tokens **list, const size_t *starts, size_t count, const char 
    Finding the id changes the feature, so that is copied twice. A feature with U+0000 ends there for
    C. */
 static mecab_node_t *make_node(const posids *rules, const kumquatsieve_word *word,
-                               const uint8_t *feature, size_t length) {
+                               const char *feature, size_t length) {
     mecab_node_t *made = malloc(sizeof *made + length + 1);
     if (!made) return NULL;
     char *text = (char *)(made + 1);
     *made = (mecab_node_t){.feature = text,
-                           .rcAttr = word->right,
-                           .lcAttr = word->left,
+                           .rcAttr = word->right_id,
+                           .lcAttr = word->left_id,
                            .isbest = 1,
                            .wcost = word->cost};
     made->stat = word->known ? MECAB_NOR_NODE : MECAB_UNK_NODE;
@@ -88,12 +88,11 @@ static mecab_node_t *make_node(const posids *rules, const kumquatsieve_word *wor
     return made;
 }
 
-static mecab_node_t *node_of(const tokens *of, kumquatsieve_cutter *cutter,
+static mecab_node_t *node_of(const tokens *of, kumquatsieve_segmenter *segmenter,
                              const kumquatsieve_word *word, fault *error) {
-    const uint8_t *feature = NULL;
+    const char *feature = NULL;
     size_t length = 0;
-    uint32_t code = kumquatsieve_entry_feature(cutter, word->known, word->dictionary, word->token,
-                                               &feature, &length);
+    uint32_t code = kumquatsieve_feature(segmenter, word, &feature, &length, NULL);
     mecab_node_t *made =
         code == KUMQUATSIEVE_OK ? make_node(of->posids, word, feature, length) : NULL;
     if (code != KUMQUATSIEVE_OK)
@@ -105,15 +104,16 @@ static mecab_node_t *node_of(const tokens *of, kumquatsieve_cutter *cutter,
 
 /* If threads make the node of one token at the same time, the first one is kept. The number of
    tokens is read from the file separately, so a file that was overwritten may have fewer. */
-bool keep_token(const tokens *of, kumquatsieve_cutter *cutter, const kumquatsieve_word *word,
+bool keep_token(const tokens *of, kumquatsieve_segmenter *segmenter, const kumquatsieve_word *word,
                 fault *error) {
     size_t token = of->starts[word->dictionary] + word->token;
     if (token >= of->starts[word->dictionary + 1])
-        return fail(error, "dictionary %zu was written over while it was loaded", word->dictionary);
+        return fail(error, "dictionary %zu was overwritten while it was being loaded",
+                    word->dictionary);
     mecab_node_t *before = atomic_load_explicit(&of->nodes[token], memory_order_acquire),
                  *made = NULL;
     if (before) return true;
-    if (!(made = node_of(of, cutter, word, error))) return false;
+    if (!(made = node_of(of, segmenter, word, error))) return false;
     if (!atomic_compare_exchange_strong_explicit(&of->nodes[token], &before, made,
                                                  memory_order_acq_rel, memory_order_acquire))
         free(made);

@@ -1,73 +1,43 @@
-/* Makes the cutter that the command line asks for. */
-#include "cut.h"
+/* Opens the dictionary that the command line asks for, and makes segmenters over it. */
+#include "pjseg.h"
 #include <stdlib.h>
 
-/* Returns whether `code` is an error, and sets *why to it. */
-static bool fails(fault *why, uint32_t code, const char *path, uint64_t number) {
-    if (code == KUMQUATSIEVE_OK) return false;
-    *why =
-        (fault){.code = code, .path = code == KUMQUATSIEVE_MEMORY ? NULL : path, .number = number};
-    return true;
-}
-
-/* Whether an error means that images don't belong together. It is reported after the errors of each
-   image by itself. */
+/* Whether an error means that images don't belong together. */
 static bool is_of_overlay(uint32_t code) { return code >> 8 == 'O'; }
 
-static bool load_system(const char *path, kumquatsieve_cutter *cutter, unsigned how, fault *why) {
-    uint64_t number = 0;
-    uint32_t code = kumquatsieve_open(cutter, path, how, &number);
-    return !fails(why, code, path, number);
-}
-
-/* Returns the error of an image by itself, which may be of any dictionary. */
-static uint32_t look_at(const char *path, unsigned how, uint64_t *number) {
-    kumquatsieve_cutter alone = KUMQUATSIEVE_EMPTY;
-    uint32_t code = kumquatsieve_open(&alone, path, how, number);
-    kumquatsieve_free(&alone);
-    return is_of_overlay(code) ? KUMQUATSIEVE_OK : code;
-}
-
-/* Adds a user dictionary. If `only_look` is true, because an earlier image doesn't belong to the
-   others, only checks its image. */
-static bool add_user(const char *path, kumquatsieve_cutter *cutter, unsigned how, bool only_look,
-                     fault *why) {
-    uint64_t number = 0;
-    uint32_t code = only_look ? look_at(path, how, &number)
-                              : kumquatsieve_open_user(cutter, path, how, &number);
-    return !fails(why, code, path, number);
-}
-
 static void say_loaded(const char *path) {
-    char *line = is_narrated() ? one_line(path) : NULL;
+    char *line = is_verbose() ? one_line(path) : NULL;
     if (line) say("loaded %s", line);
     free(line);
 }
 
-/* Opens the images one after another, as jseg does. kumquatsieve_dictionary_make takes all at once,
-   and would report that two don't belong together before the error of a later image by itself. */
-static bool load_images(const options *asked, kumquatsieve_cutter *cutter, fault *why) {
-    fault overlay = {0};
-    if (!load_system(asked->dic, cutter, asked->how, why)) {
-        if (!is_of_overlay(why->code)) return false;
-        overlay = *why;
-    }
-    say_loaded(asked->dic);
-    for (size_t i = 0; i < asked->user_count; i++) {
-        if (add_user(asked->users[i], cutter, asked->how, overlay.code != 0, why)) continue;
-        if (!is_of_overlay(why->code)) return false;
-        overlay = *why;
-    }
-    *why = overlay;
-    return overlay.code == 0;
+/* Sets *why to the error of an image. jseg numbers user dictionaries from 0. */
+static void set_fault(const options *asked, const kumquatsieve_error *error, fault *why) {
+    bool is_of_image = error->code != KUMQUATSIEVE_MEMORY,
+         is_of_user = is_of_image && error->image > 0 && error->image <= asked->user_count;
+    *why = (fault){.code = error->code, .number = error->number};
+    if (is_of_image) why->path = is_of_user ? asked->users[error->image - 1] : asked->dic;
+    if (is_of_user && is_of_overlay(error->code)) why->number = error->image - 1;
 }
 
-bool make_cutter(const options *asked, kumquatsieve_cutter *cutter, fault *why) {
+bool open_dictionary(const options *asked, kumquatsieve_dictionary **dictionary, fault *why) {
+    kumquatsieve_error error;
     if (!check_format(asked, why)) return false;
-    if (load_images(asked, cutter, why) && set_format(asked, cutter, why)) {
-        uint32_t code = kumquatsieve_set_grouping(cutter, asked->grouping);
-        if (!fails(why, code, NULL, 0)) return true;
-    }
-    kumquatsieve_free(cutter);
-    return false;
+    uint32_t code =
+        kumquatsieve_dictionary_open(dictionary, asked->dic, (const char *const *)asked->users,
+                                     asked->user_count, asked->flags, &error);
+    bool is_loaded = code == KUMQUATSIEVE_OK || error.image > 0 || is_of_overlay(code);
+    if (is_loaded) say_loaded(asked->dic);
+    if (code != KUMQUATSIEVE_OK) set_fault(asked, &error, why);
+    return code == KUMQUATSIEVE_OK;
+}
+
+bool make_segmenter(const options *asked, kumquatsieve_dictionary *dictionary,
+                    kumquatsieve_segmenter *segmenter) {
+    fault why = {0};
+    bool is_made = kumquatsieve_segmenter_open(segmenter, dictionary, NULL) == KUMQUATSIEVE_OK &&
+                   set_format(asked, segmenter, &why) &&
+                   kumquatsieve_set_grouping(segmenter, asked->grouping, NULL) == KUMQUATSIEVE_OK;
+    if (!is_made) kumquatsieve_segmenter_close(segmenter);
+    return is_made;
 }

@@ -1,7 +1,6 @@
 /* Output formats. As in jseg, they are checked before any image is read. The library only sets a
-   format of a cutter with a dictionary, so they are checked over a dictionary without words. */
-#include "cut.h"
-#include <string.h>
+   format of a segmenter with a dictionary, so they are checked over a dictionary without words. */
+#include "pjseg.h"
 
 /* Numbers of an image, in 4 or 8 bytes, little-endian. */
 #define NUMBER(n) (n), 0, 0, 0
@@ -27,32 +26,26 @@ static const uint8_t NO_WORDS[] = {
 };
 // clang-format on
 
-static const uint8_t *bytes_of(const char *text) { return (const uint8_t *)text; }
-
-/* The format of known words is the default for unknown words. */
-bool set_format(const options *asked, kumquatsieve_cutter *cutter, fault *why) {
-    const char *node = asked->node ? asked->node : "%m\\t%H\\n",
-               *unk = asked->unk ? asked->unk : node;
-    const char *bos = asked->bos ? asked->bos : "", *eos = asked->eos ? asked->eos : "EOS\\n";
-    size_t at = 0;
-    if (asked->is_wakati) {
-        node = unk = "%m ";
-        bos = "";
-        eos = "\\n";
-    }
-    uint32_t code = kumquatsieve_set_format(cutter, bytes_of(node), strlen(node), bytes_of(unk),
-                                            strlen(unk), bytes_of(bos), strlen(bos), bytes_of(eos),
-                                            strlen(eos), &why->part, &at);
+bool set_format(const options *asked, kumquatsieve_segmenter *segmenter, fault *why) {
+    kumquatsieve_error error;
+    uint32_t code = asked->is_wakati
+                        ? kumquatsieve_set_format(segmenter, "%m ", NULL, NULL, "\\n", &error)
+                        : kumquatsieve_set_format(segmenter, asked->node, asked->unk, asked->bos,
+                                                  asked->eos, &error);
     if (code == KUMQUATSIEVE_OK) return true;
-    why->code = code;
-    why->number = at;
+    *why = (fault){.code = code, .number = error.position, .part = (uint32_t)error.number};
     return false;
 }
 
 bool check_format(const options *asked, fault *why) {
-    kumquatsieve_cutter cutter = KUMQUATSIEVE_EMPTY;
-    why->code = kumquatsieve_load(&cutter, NO_WORDS, sizeof NO_WORDS, NULL);
-    bool is_good = why->code == KUMQUATSIEVE_OK && set_format(asked, &cutter, why);
-    kumquatsieve_free(&cutter);
+    kumquatsieve_segmenter segmenter = KUMQUATSIEVE_EMPTY;
+    kumquatsieve_dictionary *dictionary = NULL;
+    const kumquatsieve_image image = {NO_WORDS, sizeof NO_WORDS};
+    why->code = kumquatsieve_dictionary_load(&dictionary, &image, 1, 0, NULL);
+    if (why->code == KUMQUATSIEVE_OK)
+        why->code = kumquatsieve_segmenter_open(&segmenter, dictionary, NULL);
+    bool is_good = why->code == KUMQUATSIEVE_OK && set_format(asked, &segmenter, why);
+    kumquatsieve_segmenter_close(&segmenter);
+    kumquatsieve_dictionary_release(dictionary);
     return is_good;
 }

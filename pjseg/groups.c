@@ -1,7 +1,7 @@
 /* Segments a piece in groups of whole lines. So the output that waits to be written is bounded by
    KEPT_MOST and the output of one group, whatever the lines print. Groups are short, and shorter
    after one with much output. A longer line is a group by itself. */
-#include "cut.h"
+#include "pjseg.h"
 #include <stdlib.h>
 #include <string.h>
 
@@ -15,14 +15,14 @@ enum {
     KEPT_LEAST = 262144,
 };
 
-bool make_place(place *own, kumquatsieve_cutter *cutter) {
+bool make_place(place *own, const options *asked, kumquatsieve_dictionary *dictionary) {
     own->group = GROUP_FIRST;
     own->text.bytes = malloc(PIECE_ROOM);
-    return own->text.bytes && kumquatsieve_share(&own->cutter, cutter) == KUMQUATSIEVE_OK;
+    return own->text.bytes && make_segmenter(asked, dictionary, &own->segmenter);
 }
 
 void free_place(place *own) {
-    kumquatsieve_free(&own->cutter);
+    kumquatsieve_segmenter_close(&own->segmenter);
     free(own->text.bytes);
     free(own->kept);
 }
@@ -52,11 +52,11 @@ static size_t next_group(size_t group, size_t printed) {
     return printed <= PRINTED_MOST / 2 && group <= GROUP_MOST / 2 ? 2 * group : group;
 }
 
-bool cut_group(place *own) {
+bool segment_group(place *own) {
     size_t end = group_end(own);
-    const uint8_t *from = own->text.bytes + own->cut_to;
-    own->code = kumquatsieve_cut_lines(&own->cutter, from, end - own->cut_to, &own->out,
-                                       &own->out_length, &own->lines);
+    const char *from = (const char *)own->text.bytes + own->cut_to;
+    own->code = kumquatsieve_parse_lines(&own->segmenter, from, end - own->cut_to, &own->out,
+                                         &own->out_length, &own->lines, NULL);
     own->cut_to = end;
     own->group = next_group(own->group, own->out_length);
     own->printed += own->out_length;

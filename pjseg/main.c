@@ -1,30 +1,30 @@
-/* kumquatsieve-cut: segments the text on standard input into words, on all processors. */
-#include "cut.h"
+/* pjseg: segments the text on standard input into words, on all processors. */
+#include "pjseg.h"
 #include <signal.h>
 #include <stdlib.h>
 
 /* Prints an error. Returns the exit status. */
 static int end_by(const options *asked, const fault *why) {
-    tell_why(asked, why);
-    int status = tell_fault(why);
+    print_cause(asked, why);
+    int status = print_fault(why);
     tell_image_directories(why);
-    tell_explanation(why);
+    print_explanation(why);
     return status;
 }
 
 /* Segments standard input by the options. Returns the exit status. */
 static int cut_by(const options *asked) {
-    kumquatsieve_cutter cutter = KUMQUATSIEVE_EMPTY;
+    kumquatsieve_dictionary *dictionary = NULL;
     fault why = {0};
     uint64_t lines = 0;
     int status = STATUS_DONE;
-    if (!make_cutter(asked, &cutter, &why)) return end_by(asked, &why);
-    if (cut_input(&cutter, asked->threads, &lines)) {
-        say("cut %llu lines", (unsigned long long)lines);
+    if (!open_dictionary(asked, &dictionary, &why)) return end_by(asked, &why);
+    if (segment_input(asked, dictionary, &lines)) {
+        say("segmented %llu lines", (unsigned long long)lines);
     } else {
         status = end_by(asked, &(fault){.code = KUMQUATSIEVE_MEMORY});
     }
-    kumquatsieve_free(&cutter);
+    kumquatsieve_dictionary_release(dictionary);
     return status;
 }
 
@@ -34,7 +34,7 @@ int main(int count, char **words) {
     /* A write to a pipe without a reader fails instead of ending the program. */
     signal(SIGPIPE, SIG_IGN);
     if (read_options(count, words, &asked, &status)) {
-        if (asked.is_verbose) begin_narration();
+        if (asked.is_verbose) start_log();
         status = cut_by(&asked);
     }
     free(asked.dic);

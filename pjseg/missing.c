@@ -1,5 +1,5 @@
-/* Prints where the image of a bare name was looked for, and which images are there. */
-#include "cut.h"
+/* Prints the directories that were searched for the image of a bare name, and the images there. */
+#include "pjseg.h"
 #include <stdio.h>
 #include <stdlib.h>
 
@@ -8,7 +8,7 @@ enum { NAMES_MOST = 20 };
 
 static void write_name(FILE *to, size_t number, const char *name) {
     char *line = one_line(name);
-    fprintf(to, "%s%s", number == 0 ? "images there: " : ", ", line ? line : "");
+    fprintf(to, "%s%s", number == 0 ? "available images: " : ", ", line ? line : "");
     free(line);
 }
 
@@ -21,7 +21,7 @@ static void write_names(FILE *to, const texts *names) {
         if (count < NAMES_MOST) write_name(to, count, name);
         count++;
     }
-    if (count == 0) fputs("images there: none; kumquatsieve-import makes one", to);
+    if (count == 0) fputs("available images: none; install one with kumquatsieve-import", to);
     if (count > NAMES_MOST) fprintf(to, " and %zu more", count - NAMES_MOST);
 }
 
@@ -37,7 +37,7 @@ static void print_names(const texts *names) {
 
 static void print_directory(const char *path) {
     char *line = one_line(path);
-    if (line) tell("looked for in %s", line);
+    if (line) tell("searched %s", line);
     free(line);
 }
 

@@ -1,6 +1,6 @@
 /* The command line. As in jseg, the value of an option follows its letter, with or without `=`, or
    is the next word. */
-#include "cut.h"
+#include "pjseg.h"
 #include <limits.h>
 #include <sched.h>
 #include <stdio.h>
@@ -36,7 +36,7 @@ typedef struct reading {
 typedef enum step { NEXT, ENDED, WRONG } step;
 
 static step no_memory(reading *of) {
-    *of->status = tell_fault(&(fault){.code = KUMQUATSIEVE_MEMORY});
+    *of->status = print_fault(&(fault){.code = KUMQUATSIEVE_MEMORY});
     return ENDED;
 }
 
@@ -44,7 +44,7 @@ static step no_memory(reading *of) {
 static step wrong_with(reading *of, const char *before, const char *word, const char *behind) {
     char *line = one_line(word);
     if (!line) return no_memory(of);
-    tell_wrong("%s '%s' %s", before, line, behind);
+    print_usage_error("%s '%s' %s", before, line, behind);
     free(line);
     return WRONG;
 }
@@ -53,7 +53,7 @@ static step wrong_with(reading *of, const char *before, const char *word, const 
    NULL. */
 static step unexpected(reading *of, const char *word, const char *instead) {
     if (!instead) return wrong_with(of, "unexpected argument", word, "found");
-    tell_wrong("%s", instead);
+    print_usage_error("%s", instead);
     return WRONG;
 }
 
@@ -63,7 +63,7 @@ static step wrong_word(reading *of, const char *word) {
 
 /* Prints the text of --help or --version. */
 static step answer(reading *of, const char *text) {
-    *of->status = print_text(text) ? STATUS_DONE : tell_fault(&(fault){.code = FAULT_OUTPUT});
+    *of->status = print_text(text) ? STATUS_DONE : print_fault(&(fault){.code = FAULT_OUTPUT});
     return ENDED;
 }
 
@@ -73,15 +73,15 @@ static step read_number(reading *of, const row *option, const char *text, long l
     const char *digits = text + (*text == '+' || *text == '-');
     if (*digits == '\0' || digits[strspn(digits, "0123456789")] != '\0') {
         char behind[64];
-        snprintf(behind, sizeof behind, "for '-%c <%s>': it is no number", option->letter,
+        snprintf(behind, sizeof behind, "for '-%c <%s>': not a number", option->letter,
                  option->value);
         return wrong_with(of, "invalid value", text, behind);
     }
     /* A number that is too large for a long is the largest one. */
     long found = strtol(text, NULL, 10);
     if (found < least || found > most) {
-        tell_wrong("invalid value '%s' for '-%c <%s>': %s is not in %ld..=%ld", text,
-                   option->letter, option->value, text, least, most);
+        print_usage_error("invalid value '%s' for '-%c <%s>': %s is not in %ld..=%ld", text,
+                          option->letter, option->value, text, least, most);
         return WRONG;
     }
     *number = (uint32_t)found;
@@ -122,12 +122,13 @@ static step missing_value(reading *of, const row *option) {
     char *line = may_be_file ? one_line(of->words[of->at]) : NULL;
     if (may_be_file && !line) return no_memory(of);
     if (line) {
-        tell_wrong("a value is required for '-%c <%s>' but none was supplied\n\n  tip: for the "
-                   "file '%s' write './%s'",
-                   option->letter, option->value, line, line);
+        print_usage_error(
+            "a value is required for '-%c <%s>' but none was supplied\n\n  tip: for the "
+            "file '%s' write './%s'",
+            option->letter, option->value, line, line);
     } else {
-        tell_wrong("a value is required for '-%c <%s>' but none was supplied", option->letter,
-                   option->value);
+        print_usage_error("a value is required for '-%c <%s>' but none was supplied",
+                          option->letter, option->value);
     }
     free(line);
     return WRONG;
@@ -148,8 +149,8 @@ static const row *row_of(char letter) {
 /* Prints that an option was given twice. `value` is the name of its value, or NULL. */
 static step given_twice(const char *name, const char *value) {
     const char *before = value ? " <" : "", *behind = value ? ">" : "";
-    tell_wrong("the argument '%s%s%s%s' cannot be used multiple times", name, before,
-               value ? value : "", behind);
+    print_usage_error("the argument '%s%s%s%s' cannot be used multiple times", name, before,
+                      value ? value : "", behind);
     return WRONG;
 }
 
@@ -169,7 +170,7 @@ static step read_letters(reading *of, const char *word) {
     return NEXT;
 }
 
-/* The options without a letter, each with the flag of kumquatsieve_open that it sets. */
+/* The options without a letter, each with the flag of kumquatsieve_dictionary_open that it sets. */
 static const struct {
     const char *word;
     unsigned how;
@@ -189,10 +190,10 @@ static unsigned opening_of(const char *word) {
 
 static step read_opening(reading *of, const char *word, unsigned how) {
     const unsigned either = KUMQUATSIEVE_SKIP_DIGEST | KUMQUATSIEVE_TEST_DIGEST;
-    if (of->asked->how & how) return given_twice(word, NULL);
-    of->asked->how |= how;
-    if ((of->asked->how & either) != either) return NEXT;
-    tell_wrong("the argument '--test-digest' cannot be used with '--skip-digest'");
+    if (of->asked->flags & how) return given_twice(word, NULL);
+    of->asked->flags |= how;
+    if ((of->asked->flags & either) != either) return NEXT;
+    print_usage_error("the argument '--test-digest' cannot be used with '--skip-digest'");
     return WRONG;
 }
 
@@ -219,9 +220,9 @@ static uint32_t processors(void) {
 static step wrong_directory(reading *of, const char *path) {
     char *line = one_line(path);
     if (!line) return no_memory(of);
-    tell_wrong("%s is a dictionary of MeCab: make an image of its sources with "
-               "'kumquatsieve-import SOURCES IMG', and give that with -d",
-               line);
+    print_usage_error("%s is a MeCab dictionary, not an image: compile its sources with "
+                      "'kumquatsieve-import SOURCES IMG', and use that image with -d",
+                      line);
     free(line);
     return WRONG;
 }
@@ -242,7 +243,7 @@ static step finish(reading *of) {
     const char *instead = of->output ? instead_of_output(of->output) : NULL;
     of->asked->is_wakati = of->output != NULL;
     if (instead || !of->dic) {
-        tell_wrong("%s", instead ? instead : "-d IMG has to be given");
+        print_usage_error("%s", instead ? instead : "-d IMG is required");
         return WRONG;
     }
     if (!find_images(of)) return no_memory(of);
@@ -284,7 +285,7 @@ bool read_options(int count, char **words, options *asked, int *status) {
     if (asked->users && own.users) {
         is_read = read_words(&own);
     } else {
-        *status = tell_fault(&(fault){.code = KUMQUATSIEVE_MEMORY});
+        *status = print_fault(&(fault){.code = KUMQUATSIEVE_MEMORY});
     }
     free(own.users);
     return is_read;

@@ -1,40 +1,19 @@
 /* Paths of images by their names, and directories with a dictionary of MeCab. */
-#include "cut.h"
-#include <limits.h>
+#include "pjseg.h"
 #include <stdio.h>
 #include <stdlib.h>
 #include <string.h>
 #include <sys/stat.h>
-#include <unistd.h>
-
-/* Removes the last name of a path. Returns false if there is no slash before it. */
-static bool to_parent(char *path) {
-    char *slash = strrchr(path, '/');
-    if (!slash) return false;
-    *slash = '\0';
-    return true;
-}
-
-/* Returns PREFIX if this program is PREFIX/bin/kumquatsieve-cut, written to `program`, or NULL if
-   the path of the program is unknown. */
-static const char *own_prefix(char program[static PATH_MAX + 1]) {
-    ssize_t length = readlink("/proc/self/exe", program, PATH_MAX);
-    if (length <= 0) return NULL;
-    program[length] = '\0';
-    return to_parent(program) && to_parent(program) ? program : NULL;
-}
 
 char *find_image(const char *name) {
-    char program[PATH_MAX + 1];
-    const char *prefix = own_prefix(program);
     char *path = NULL;
     size_t room = 0;
-    uint32_t code = kumquatsieve_find_image(name, prefix, NULL, 0, &room);
+    uint32_t code = kumquatsieve_find_image(name, NULL, 0, &room, NULL);
     while (code == KUMQUATSIEVE_SHORT_BUFFER) {
         free(path);
         path = malloc(room);
         if (!path) return NULL;
-        code = kumquatsieve_find_image(name, prefix, path, room, &room);
+        code = kumquatsieve_find_image(name, path, room, &room, NULL);
     }
     if (code == KUMQUATSIEVE_OK) return path;
     free(path);
@@ -42,34 +21,47 @@ char *find_image(const char *name) {
 }
 
 bool is_missing(const char *name) {
-    char program[PATH_MAX + 1];
-    return kumquatsieve_find_image(name, own_prefix(program), NULL, 0, NULL) == KUMQUATSIEVE_FILE;
+    return kumquatsieve_find_image(name, NULL, 0, NULL, NULL) == KUMQUATSIEVE_FILE;
 }
 
 /* A call of the library that lists texts. */
-typedef uint32_t list_call(const char *prefix, char *texts, size_t room, size_t *needed);
+typedef uint32_t list_call(char *texts, size_t room, size_t *needed, kumquatsieve_error *error);
 
 /* Makes the list of a call. Returns false if memory runs out. */
 static bool make_list(list_call *list_texts, texts *list) {
-    char program[PATH_MAX + 1];
-    const char *prefix = own_prefix(program);
     *list = (texts){NULL, 0};
-    uint32_t code = list_texts(prefix, NULL, 0, &list->length);
+    uint32_t code = list_texts(NULL, 0, &list->length, NULL);
     while (code == KUMQUATSIEVE_SHORT_BUFFER) {
         free(list->first);
         list->first = malloc(list->length);
         if (!list->first) return false;
-        code = list_texts(prefix, list->first, list->length, &list->length);
+        code = list_texts(list->first, list->length, &list->length, NULL);
     }
     if (code != KUMQUATSIEVE_OK) free(list->first);
     return code == KUMQUATSIEVE_OK;
 }
 
-bool list_image_directories(texts *list) {
-    return make_list(kumquatsieve_list_image_directories, list);
+bool list_image_directories(texts *list) { return make_list(kumquatsieve_list_directories, list); }
+
+/* Replaces the path of an image by its bare name. Returns the end of that, after its zero byte. */
+static char *put_bare_name(const char *path, char *to) {
+    const char *name = strrchr(path, '/') + 1;
+    size_t length = strlen(name) - strlen(".img");
+    memmove(to, name, length);
+    to[length] = '\0';
+    return to + length + 1;
 }
 
-bool list_image_names(texts *list) { return make_list(kumquatsieve_list_image_names, list); }
+bool list_image_names(texts *list) {
+    if (!make_list(kumquatsieve_list_images, list)) return false;
+    char *to = list->first;
+    for (const char *path = next_text(list, NULL), *next; path; path = next) {
+        next = next_text(list, path);
+        to = put_bare_name(path, to);
+    }
+    list->length = list->first ? (size_t)(to - list->first) : 0;
+    return true;
+}
 
 const char *next_text(const texts *list, const char *text) {
     text = text ? text + strlen(text) + 1 : list->first;

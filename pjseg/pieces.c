@@ -1,6 +1,6 @@
 /* Reads standard input in pieces of at most a megabyte that end at line ends. A failed read is not
    repeated. */
-#include "cut.h"
+#include "pjseg.h"
 #include <stdlib.h>
 #include <string.h>
 #include <unistd.h>

@@ -1,5 +1,5 @@
 /* Prints on a terminal how much of the text was written, in one line that is overwritten. */
-#include "cut.h"
+#include "pjseg.h"
 #include <stdatomic.h>
 #include <stdio.h>
 #include <string.h>

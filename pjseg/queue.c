@@ -1,14 +1,14 @@
-/* The queue of pieces. Each thread takes the next piece of the text and segments it with the cutter
-   of the piece's place in the queue. If the piece is next in order, the thread writes the output of
-   each group of lines at once. If not, it keeps the output up to a limit, and then waits until the
-   piece is next. A piece that is complete before it is next is written by the thread that writes
-   the piece before it. One thread reads at a time and one writes. No thread holds the lock while it
-   reads, segments or writes. The queue has as many places as there are threads, the main thread
-   included.
+/* The queue of pieces. Each thread takes the next piece of the text and segments it with the
+   segmenter of the piece's place in the queue. If the piece is next in order, the thread writes the
+   output of each group of lines at once. If not, it keeps the output up to a limit, and then waits
+   until the piece is next. A piece that is complete before it is next is written by the thread that
+   writes the piece before it. One thread reads at a time and one writes. No thread holds the lock
+   while it reads, segments or writes. The queue has as many places as there are threads, the main
+   thread included.
 
    There is no deadlock: a thread only waits for pieces before its own, and the thread of the piece
    that is next in order does not wait. */
-#include "cut.h"
+#include "pjseg.h"
 #include <pthread.h>
 #include <stdlib.h>
 #include <unistd.h>
@@ -32,8 +32,8 @@ typedef struct queue {
 /* Reports an error and ends the program, since another thread may be in a read that never ends. */
 static _Noreturn void end_early(uint32_t code, uint64_t number) {
     fault why = {.code = code, .number = number};
-    int status = tell_fault(&why);
-    tell_explanation(&why);
+    int status = print_fault(&why);
+    print_explanation(&why);
     _exit(status);
 }
 
@@ -45,7 +45,7 @@ static void write_waiting(queue *of, place *next) {
     bool is_fault = next->code != KUMQUATSIEVE_OK;
     warn_of(&of->warnings, text, length, of->lines, is_fault ? lines - 1 : lines);
     bool is_written = write_out(next->kept, next->kept_length, &of->sent) &&
-                      write_out(next->out, next->out_length, &of->sent);
+                      write_out((const uint8_t *)next->out, next->out_length, &of->sent);
     if (!is_written) end_early(FAULT_WRITE, of->sent);
     if (is_fault) end_early(next->code, of->lines + lines);
     of->lines += lines;
@@ -140,17 +140,17 @@ static void *serve(void *given) {
     queue *of = given;
     place *own;
     while ((own = take(of))) {
-        while (cut_group(own)) pass_on(of, own);
+        while (segment_group(own)) pass_on(of, own);
         give(of, own);
     }
     return NULL;
 }
 
-static bool make_places(queue *of, kumquatsieve_cutter *cutter) {
+static bool make_places(queue *of, const options *asked, kumquatsieve_dictionary *dictionary) {
     of->places = calloc(of->room, sizeof *of->places);
     if (!of->places || !make_input(&of->in)) return false;
     for (size_t i = 0; i < of->room; i++) {
-        if (!make_place(&of->places[i], cutter)) return false;
+        if (!make_place(&of->places[i], asked, dictionary)) return false;
     }
     return true;
 }
@@ -171,18 +171,18 @@ static void serve_by(queue *of, pthread_t *others, uint32_t wanted) {
     for (uint32_t i = 0; i < made; i++) pthread_join(others[i], NULL);
 }
 
-bool cut_input(kumquatsieve_cutter *cutter, uint32_t threads, uint64_t *lines) {
+bool segment_input(const options *asked, kumquatsieve_dictionary *dictionary, uint64_t *lines) {
     queue own = {
         .lock = PTHREAD_MUTEX_INITIALIZER,
         .changed = PTHREAD_COND_INITIALIZER,
-        .room = threads,
+        .room = asked->threads,
         .least = PIECE_MOST,
         .warnings = wanted_warnings(),
     };
-    pthread_t *others = calloc(threads, sizeof *others);
-    bool is_made = others && make_places(&own, cutter);
+    pthread_t *others = calloc(asked->threads, sizeof *others);
+    bool is_made = others && make_places(&own, asked, dictionary);
     begin_progress();
-    if (is_made) serve_by(&own, others, threads - 1);
+    if (is_made) serve_by(&own, others, asked->threads - 1);
     erase_progress();
     *lines = own.lines;
     free_places(&own);

@@ -1,5 +1,5 @@
 /* UTF-8, and texts that are printed in one line. */
-#include "cut.h"
+#include "pjseg.h"
 #include <stdio.h>
 #include <stdlib.h>
 #include <string.h>

@@ -1,5 +1,5 @@
 /* Warnings about a text that is segmented as it is, but perhaps not as its author means. */
-#include "cut.h"
+#include "pjseg.h"
 #include <string.h>
 
 static const uint8_t MARK[] = {0xef, 0xbb, 0xbf};

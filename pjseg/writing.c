@@ -1,5 +1,5 @@
 /* Writes to standard output. */
-#include "cut.h"
+#include "pjseg.h"
 #include <unistd.h>
 
 bool write_out(const uint8_t *at, size_t length, uint64_t *taken) {

@@ -1,6 +1,7 @@
-/* Image directories, and which image a name means: the rule of crates/programs/src/homes.rt, for
-   programs in C and Python. */
+/* Image directories, and which image a name means: the rule of jseg (image_dirs.rt of its crates),
+   for all programs that use the library. */
 #include "image_dirs.h"
+#include <errno.h>
 #include <stdlib.h>
 #include <string.h>
 
@@ -66,11 +67,13 @@ static bool add_installed(image_dirs *dirs, const char *prefix) {
            add_dir(dirs, joined(prefix, "/share/kumquatsieve"));
 }
 
-bool find_image_dirs(const char *prefix, image_dirs *found) {
+bool find_image_dirs(image_dirs *found) {
+    char *prefix = installed_prefix();
     *found = (image_dirs){.count = 0};
-    if (add_own(found) && (!prefix || add_installed(found, prefix))) return true;
-    free_image_dirs(found);
-    return false;
+    bool is_found = prefix && add_own(found) && add_installed(found, prefix);
+    free(prefix);
+    if (!is_found) free_image_dirs(found);
+    return is_found;
 }
 
 void free_image_dirs(image_dirs *dirs) {
@@ -94,49 +97,100 @@ static bool find_in_dirs(const image_dirs *dirs, const char *name, char **path) 
     return true;
 }
 
+/* Sets *path to the path of the installed image with a bare name, or to NULL. Returns false if
+   memory runs out. */
+static bool find_installed(const char *name, char **path) {
+    image_dirs dirs;
+    *path = NULL;
+    if (!*name || strchr(name, '/')) return true;
+    if (!find_image_dirs(&dirs)) return false;
+    bool has_memory = find_in_dirs(&dirs, name, path);
+    free_image_dirs(&dirs);
+    return has_memory;
+}
+
+/* Reports that no image has a bare name, by what is at this path. */
+static uint32_t fail_path(const char *name, size_t number, kumquatsieve_error *error) {
+    struct stat of;
+    int why = state_at(name, &of) == 0 ? EISDIR : errno;
+    if (why != ENOENT) return fail_file(error, why, number, name);
+    return fail_name(error, number, name,
+                     "no such file, and no image of this name is installed; kumquatsieve-import "
+                     "makes one");
+}
+
+/* Sets *path to the path that `name` means: its own, or that of an installed image. */
+static uint32_t find_path(const char *name, size_t number, char **path, kumquatsieve_error *error) {
+    bool is_path = !*name || strchr(name, '/') || is_file(name), has_memory = true;
+    *path = is_path ? strdup(name) : NULL;
+    if (is_path)
+        has_memory = *path != NULL;
+    else
+        has_memory = find_installed(name, path);
+    if (!has_memory) return fail(error, KUMQUATSIEVE_MEMORY);
+    return *path ? KUMQUATSIEVE_OK : fail_path(name, number, error);
+}
+
+/* Sets *path to that of the image in a directory, which the variable may name. */
+static uint32_t find_in_directory(const char *directory, char **path, kumquatsieve_error *error) {
+    *path = path_in(directory, "kumquatsieve", IMAGE_END);
+    return *path ? KUMQUATSIEVE_OK : fail(error, KUMQUATSIEVE_MEMORY);
+}
+
+/* Sets *path to that of the only system dictionary that is installed. */
+static uint32_t find_only(char **path, kumquatsieve_error *error) {
+    size_t count = 0;
+    if (!only_system_image(path, &count)) return fail(error, KUMQUATSIEVE_MEMORY);
+    if (count == 1) return KUMQUATSIEVE_OK;
+    return fail_name(error, 0, NULL,
+                     count == 0
+                         ? "no dictionary is installed; kumquatsieve-import makes one"
+                         : "several dictionaries are installed, and none is named by the caller or "
+                           "by KUMQUATSIEVE_DICTIONARY");
+}
+
+uint32_t resolve_name(const char *name, size_t number, char **path, kumquatsieve_error *error) {
+    struct stat of;
+    if (name) return find_path(name, number, path, error);
+    name = secure_getenv("KUMQUATSIEVE_DICTIONARY");
+    if (!name || !*name) return find_only(path, error);
+    bool is_directory = state_at(name, &of) == 0 && S_ISDIR(of.st_mode);
+    return is_directory ? find_in_directory(name, path, error)
+                        : find_path(name, number, path, error);
+}
+
 static size_t length_of(const char *const *texts, size_t count) {
     size_t length = 0;
     for (size_t i = 0; i < count; i++) length += strlen(texts[i]) + 1;
     return length;
 }
 
-uint32_t copy_texts(const char *const *texts, size_t count, char *out, size_t room,
-                    size_t *needed) {
+uint32_t copy_texts(const char *const *texts, size_t count, char *out, size_t room, size_t *needed,
+                    kumquatsieve_error *error) {
     size_t length = length_of(texts, count);
+    if (!out && room > 0) return fail(error, KUMQUATSIEVE_BAD_ARGUMENT);
     if (needed) *needed = length;
-    if (room < length) return KUMQUATSIEVE_SHORT_BUFFER;
+    if (room < length) return fail(error, KUMQUATSIEVE_SHORT_BUFFER);
     for (size_t i = 0; i < count; i++) out = stpcpy(out, texts[i]) + 1;
-    return KUMQUATSIEVE_OK;
+    return succeed(error);
 }
 
-uint32_t kumquatsieve_find_installed(const char *name, const char *prefix, char *path, size_t room,
-                                     size_t *needed) {
-    image_dirs dirs;
+uint32_t kumquatsieve_find_image(const char *name, char *path, size_t room, size_t *needed,
+                                 kumquatsieve_error *error) {
     char *found = NULL;
-    if (!name || !*name || strchr(name, '/')) return KUMQUATSIEVE_FILE;
-    if (!find_image_dirs(prefix, &dirs)) return KUMQUATSIEVE_MEMORY;
-    bool has_memory = find_in_dirs(&dirs, name, &found);
-    free_image_dirs(&dirs);
-    if (!has_memory) return KUMQUATSIEVE_MEMORY;
-    if (!found) return KUMQUATSIEVE_FILE;
-    uint32_t code = copy_texts((const char *const *)&found, 1, path, room, needed);
+    uint32_t code = resolve_name(name, 0, &found, error);
+    if (code == KUMQUATSIEVE_OK)
+        code = copy_texts((const char *const *)&found, 1, path, room, needed, error);
     free(found);
     return code;
 }
 
-uint32_t kumquatsieve_find_image(const char *name, const char *prefix, char *path, size_t room,
-                                 size_t *needed) {
-    if (!name) return KUMQUATSIEVE_FILE;
-    if (!*name || strchr(name, '/') || is_file(name))
-        return copy_texts(&name, 1, path, room, needed);
-    return kumquatsieve_find_installed(name, prefix, path, room, needed);
-}
-
-uint32_t kumquatsieve_list_image_directories(const char *prefix, char *paths, size_t room,
-                                             size_t *needed) {
+uint32_t kumquatsieve_list_directories(char *paths, size_t room, size_t *needed,
+                                       kumquatsieve_error *error) {
     image_dirs dirs;
-    if (!find_image_dirs(prefix, &dirs)) return KUMQUATSIEVE_MEMORY;
-    uint32_t code = copy_texts((const char *const *)dirs.paths, dirs.count, paths, room, needed);
+    if (!find_image_dirs(&dirs)) return fail(error, KUMQUATSIEVE_MEMORY);
+    uint32_t code =
+        copy_texts((const char *const *)dirs.paths, dirs.count, paths, room, needed, error);
     free_image_dirs(&dirs);
     return code;
 }

@@ -1,139 +1,133 @@
-/* Mapped files, each mapped once in a process, and the lists of them that cutters have.
-   docs/LIBRARY.md has the rules for such files. */
+/* The memory of images: files that are mapped, and anonymous mappings for bytes that are read or
+   copied. docs/C_API.md has the rules for mapped files. */
 #include "library.h"
 #include <errno.h>
 #include <pthread.h>
 #include <stdlib.h>
+#include <string.h>
 #include <sys/mman.h>
 
-/* A mapped file, its state when it was mapped, and how many entries of lists have it. While it is
-   mapped no other file gets its inode. */
+/* The kernel is asked for huge pages for as many bytes or more: an image is read at random
+   positions, and with small pages most of these reads wait for the translation of an address. */
+static const size_t LARGE = (size_t)32 << 20;
+
+enum { ROOM_LEAST = 65536 };
+
+static pthread_mutex_t shared = PTHREAD_MUTEX_INITIALIZER;
+
+void lock_shared(void) { pthread_mutex_lock(&shared); }
+
+void unlock_shared(void) { pthread_mutex_unlock(&shared); }
+
+/* Holds the lock during a fork. Otherwise a child, which has only the forking thread, could start
+   with a lock that another thread held. A fork locks in the reverse order of registration. So this
+   lock is registered before those of other libraries, such as libmecab, which may be held while it
+   is taken. Constructors with priorities below 101 are reserved. */
+__attribute__((constructor(101))) static void keep_over_forks(void) {
+    pthread_atfork(lock_shared, unlock_shared, unlock_shared);
+}
+
+/* A mapped file in the state `of`, which images of several dictionaries share. */
 typedef struct mapping {
     struct mapping *next;
+    size_t holders;
     struct stat of;
     void *at;
-    size_t entries;
+    size_t length;
 } mapping;
 
-/* An entry of lists: a file, the entry of the files that were mapped before it, and how many
-   cutters and entries have this entry. */
-struct kumquatsieve_mapped {
-    mapping *file;
-    struct kumquatsieve_mapped *others;
-    size_t holders;
-};
+static mapping *mapped;
 
-/* All mapped files. They and all counts are read and written under the lock. Nothing is allocated
-   under it, so no thread that holds it waits for the lock of an allocator. */
-static mapping *mappings;
-static pthread_mutex_t registry = PTHREAD_MUTEX_INITIALIZER;
-
-static void lock(void) { pthread_mutex_lock(&registry); }
-
-static void unlock(void) { pthread_mutex_unlock(&registry); }
-
-/* Holds the lock during a fork, as dictionary.c does. This lock is taken while the lock of
-   dictionary.c is held, so it is registered before that one, and locked after it. */
-__attribute__((constructor(101))) static void keep_over_forks(void) {
-    pthread_atfork(lock, unlock, unlock);
-}
-
-static mapping *find(const struct stat *of) {
-    for (mapping *one = mappings; one; one = one->next) {
-        if (are_same_file(&one->of, of)) return one;
+/* Maps a file, and lists it without a holder. Returns 0 or an errno. The caller holds the lock. */
+static int add_mapping(int file, const struct stat *of) {
+    mapping *made = malloc(sizeof *made);
+    if (!made) return ENOMEM;
+    *made = (mapping){.next = mapped, .of = *of, .length = (size_t)of->st_size};
+    made->at = mmap(NULL, made->length, PROT_READ, MAP_SHARED, file, 0);
+    if (made->at == MAP_FAILED) {
+        int why = errno;
+        free(made);
+        return why;
     }
-    return NULL;
+    mapped = made;
+    return 0;
 }
 
-/* Maps a file that isn't mapped yet. Returns 0 or an errno. Returns ENODEV if the file has changed
-   since its state was read: it may be shorter now, and bytes after its end can't be read. */
-static int map_new(int file, mapping *fresh) {
+/* Returns the mapping of a file in this state, or NULL. The caller holds the lock. */
+static mapping *find_mapping(const struct stat *of) {
+    mapping *found = mapped;
+    while (found && !are_same_file(&found->of, of)) found = found->next;
+    return found;
+}
+
+/* Gives up a holder of a mapping, and unmaps a file that has no holder left. */
+static void release_mapping(mapping *of) {
+    lock_shared();
+    bool is_last = --of->holders == 0;
+    mapping **at = &mapped;
+    while (is_last && *at != of) at = &(*at)->next;
+    if (is_last) *at = of->next;
+    unlock_shared();
+    if (!is_last) return;
+    munmap(of->at, of->length);
+    free(of);
+}
+
+int map_file(int file, image *to) {
     struct stat now;
-    size_t length = (size_t)fresh->of.st_size;
-    if ((uint64_t)fresh->of.st_size > PTRDIFF_MAX) return ENOMEM;
-    void *at = mmap(NULL, length, PROT_READ, MAP_SHARED, file, 0);
-    if (at == MAP_FAILED) return errno;
-    if (state_of(file, &now) != 0 || !are_same_file(&now, &fresh->of)) {
-        munmap(at, length);
+    if ((uint64_t)to->of.st_size > PTRDIFF_MAX) return ENOMEM;
+    lock_shared();
+    int why = find_mapping(&to->of) ? 0 : add_mapping(file, &to->of);
+    mapping *found = why == 0 ? find_mapping(&to->of) : NULL;
+    if (found) found->holders++;
+    unlock_shared();
+    if (!found) return why;
+    /* A file that has changed may be shorter now, and bytes after its end can't be read. */
+    if (state_of(file, &now) != 0 || !are_same_file(&now, &to->of)) {
+        release_mapping(found);
         return ENODEV;
     }
-    fresh->at = at;
-    fresh->next = mappings;
-    mappings = fresh;
+    to->file = found;
+    to->bytes = found->at;
+    to->length = to->room = found->length;
     return 0;
 }
 
-/* Sets the file of an entry: the mapped one, or `fresh`, which is mapped then. Returns 0 or an
-   errno. */
-static int map_entry(int file, mapping *fresh, struct kumquatsieve_mapped *entry) {
-    mapping *found = find(&fresh->of);
-    int error = found ? 0 : map_new(file, fresh);
+/* If the request for huge pages fails, the memory has small pages and is slower. */
+static int grow(image *to, size_t room) {
+    void *at = to->bytes
+                   ? mremap(to->bytes, to->room, room, MREMAP_MAYMOVE)
+                   : mmap(NULL, room, PROT_READ | PROT_WRITE, MAP_PRIVATE | MAP_ANONYMOUS, -1, 0);
+    if (at == MAP_FAILED) return ENOMEM;
+    to->bytes = at;
+    to->room = room;
+    if (room >= LARGE) madvise(at, room, MADV_HUGEPAGE);
+    return 0;
+}
+
+int make_room(image *to, size_t length) {
+    if (length > PTRDIFF_MAX) return ENOMEM;
+    if (to->bytes && length <= to->room) return 0;
+    return grow(to, length > ROOM_LEAST ? length : ROOM_LEAST);
+}
+
+int append_bytes(image *to, const void *bytes, size_t length) {
+    if (length > PTRDIFF_MAX - to->length) return ENOMEM;
+    size_t needed = to->length + length, doubled = to->room > PTRDIFF_MAX / 2 ? 0 : 2 * to->room;
+    bool is_full = !to->bytes || needed > to->room;
+    int error = is_full ? make_room(to, needed > doubled ? needed : doubled) : 0;
     if (error != 0) return error;
-    entry->file = found ? found : fresh;
-    entry->file->entries++;
+    if (length > 0) memcpy(to->bytes + to->length, bytes, length);
+    to->length = needed;
     return 0;
 }
 
-int map_file(int file, const struct stat *of, struct kumquatsieve_mapped *others,
-             struct kumquatsieve_mapped **list) {
-    struct kumquatsieve_mapped *entry = malloc(sizeof *entry);
-    mapping *fresh = malloc(sizeof *fresh);
-    int error = ENOMEM;
-    if (entry && fresh) {
-        *entry = (struct kumquatsieve_mapped){NULL, others, 1};
-        *fresh = (mapping){.of = *of};
-        lock();
-        error = map_entry(file, fresh, entry);
-        unlock();
-    }
-    bool is_used = error == 0 && entry->file == fresh;
-    if (!is_used) free(fresh);
-    if (error == 0)
-        *list = entry;
-    else
-        free(entry);
-    return error;
-}
-
-loan mapped_bytes(const struct kumquatsieve_mapped *list) {
-    return (loan){list->file->at, (size_t)list->file->of.st_size};
-}
-
-/* Removes an entry from its file. If that was the last one, removes the file from the mapped ones
-   and returns it. The caller holds the lock. */
-static mapping *leave(mapping *file) {
-    if (--file->entries > 0) return NULL;
-    mapping **at = &mappings;
-    while (*at != file) at = &(*at)->next;
-    *at = file->next;
-    return file;
-}
-
-static void unmap(mapping *unused) {
-    if (unused) munmap(unused->at, (size_t)unused->of.st_size);
-    free(unused);
-}
-
-struct kumquatsieve_mapped *hold_mapped(struct kumquatsieve_mapped *list) {
-    if (!list) return NULL;
-    lock();
-    list->holders++;
-    unlock();
-    return list;
-}
-
-struct kumquatsieve_mapped *release_first(struct kumquatsieve_mapped *list) {
-    lock();
-    bool is_last = --list->holders == 0;
-    mapping *unused = is_last ? leave(list->file) : NULL;
-    unlock();
-    if (!is_last) return NULL;
-    struct kumquatsieve_mapped *others = list->others;
-    unmap(unused);
-    free(list);
-    return others;
-}
-
-void release_mapped(struct kumquatsieve_mapped *list) {
-    while (list) list = release_first(list);
+void unmap(image *of) {
+    if (of->file)
+        release_mapping(of->file);
+    else if (of->bytes)
+        munmap(of->bytes, of->room);
+    of->file = NULL;
+    of->bytes = NULL;
+    of->length = of->room = 0;
 }

@@ -1,23 +1,19 @@
-/* The calls that open image files, and those that share or free the mapped files of a cutter. */
+/* Opens the image files of a dictionary. */
+#include "image_dirs.h"
 #include "library.h"
 #include <errno.h>
 #include <fcntl.h>
 #include <limits.h>
+#include <stdlib.h>
 #include <string.h>
 #include <unistd.h>
 
 enum {
-    OPEN_FLAGS = O_RDONLY | O_CLOEXEC | O_NOCTTY,
-    ALL_HOW = KUMQUATSIEVE_SKIP_DIGEST | KUMQUATSIEVE_TEST_DIGEST | KUMQUATSIEVE_COPY,
+    OPEN_FILE = O_RDONLY | O_CLOEXEC | O_NOCTTY,
+    OPEN_FLAGS = KUMQUATSIEVE_SKIP_DIGEST | KUMQUATSIEVE_TEST_DIGEST | KUMQUATSIEVE_COPY |
+                 KUMQUATSIEVE_TRUSTED,
+    NO_RECORD = KUMQUATSIEVE_TEST_DIGEST | KUMQUATSIEVE_COPY,
 };
-
-/* The arguments of a call. `number` is not NULL. */
-typedef struct request {
-    kumquatsieve_cutter *cutter;
-    bool is_user;
-    unsigned how;
-    uint64_t *number;
-} request;
 
 /* An open image file. A descriptor is -1 if there is none. `directory` is only open to look for a
    record; the file is then `name` in it, and no link. */
@@ -25,19 +21,20 @@ typedef struct opened {
     int directory;
     int file;
     const char *name;
-    struct stat of;
     header first;
 } opened;
-
-static uint32_t fail_file(int error, uint64_t *number) {
-    if (error == ENOMEM) return KUMQUATSIEVE_MEMORY;
-    *number = (uint64_t)error;
-    return KUMQUATSIEVE_FILE;
-}
 
 static void close_file(int *file) {
     if (*file >= 0) close(*file);
     *file = -1;
+}
+
+static void close_all(opened *files, size_t count) {
+    for (size_t i = 0; i < count; i++) {
+        close_file(&files[i].file);
+        close_file(&files[i].directory);
+    }
+    free(files);
 }
 
 /* Opens the directory in which the first `length` bytes of a path end. It need not be readable. */
@@ -54,7 +51,7 @@ static int open_directory(const char *path, size_t length) {
 static int open_in_directory(const char *path, opened *to) {
     to->directory = open_directory(path, (size_t)(to->name - path));
     if (to->directory < 0) return errno;
-    to->file = openat(to->directory, to->name, OPEN_FLAGS | O_NOFOLLOW);
+    to->file = openat(to->directory, to->name, OPEN_FILE | O_NOFOLLOW);
     return to->file >= 0 ? 0 : errno;
 }
 
@@ -66,109 +63,119 @@ static int open_file(const char *path, bool wants_record, opened *to) {
     int error = wants_record ? open_in_directory(path, to) : ELOOP;
     if (error == 0 || error == EINTR) return error;
     close_file(&to->directory);
-    to->file = open(path, OPEN_FLAGS);
+    to->file = open(path, OPEN_FILE);
     return to->file >= 0 ? 0 : errno;
 }
 
-/* Loads a mapped image, without tests if it has a record. */
-static uint32_t load_mapped(const opened *from, const request *to, loan image) {
-    bool skip = !(to->how & KUMQUATSIEVE_TEST_DIGEST);
-    bool is_tested =
-        has_record(from->directory, from->name, from->file, &from->of, from->first.layout);
-    if (to->is_user && is_tested) return proved_add_user_trusted(to->cutter, image, to->number);
-    if (to->is_user) return proved_add_user_lent(to->cutter, image, skip, to->number);
-    if (is_tested) return proved_load_trusted(to->cutter, image, to->number);
-    return proved_load_lent(to->cutter, image, skip, to->number);
+/* Sets the path of an image to the one that a name means, and opens its file. */
+static uint32_t open_image(kumquatsieve_dictionary *to, size_t number, const char *name,
+                           opened *file, kumquatsieve_error *error) {
+    image *one = &to->images[number];
+    uint32_t code = resolve_name(name, number, &one->path, error);
+    if (code != KUMQUATSIEVE_OK) return code;
+    int why = open_file(one->path, !(to->flags & NO_RECORD), file);
+    if (why == 0 && state_of(file->file, &one->of) != 0) why = errno;
+    return why == 0 ? code : fail_file(error, why, number, one->path);
 }
 
-/* Maps an image and loads it. Returns ENODEV if it has to be read; else 0, and sets *code. */
-static int map_and_load(const opened *from, const request *to, uint32_t *code) {
-    struct kumquatsieve_mapped *list = NULL;
-    int error = map_file(from->file, &from->of, to->cutter->mapped, &list);
-    if (error == ENODEV) return error;
-    *code = error == 0 ? load_mapped(from, to, mapped_bytes(list)) : fail_file(error, to->number);
-    if (*code == KUMQUATSIEVE_OK)
-        to->cutter->mapped = list;
-    else if (list)
-        release_first(list);
-    return 0;
+/* Maps an image or reads it. A regular file with the length in its header is mapped. Sets
+ *is_tested to whether it passed all tests. */
+static uint32_t take_bytes(kumquatsieve_dictionary *to, size_t number, opened *from,
+                           bool *is_tested, kumquatsieve_error *error) {
+    image *one = &to->images[number];
+    header *first = &from->first;
+    uint64_t detail = 0;
+    int why = read_header(from->file, first);
+    if (why != 0) return fail_file(error, why, number, one->path);
+    uint32_t code = judge_header(first, known_length(&one->of), &detail);
+    if (code != KUMQUATSIEVE_OK) return fail_image(error, code, detail, number, one->path);
+    bool is_whole =
+        first->length == HEADER_LENGTH && (uint64_t)one->of.st_size == first->image_length;
+    bool is_mapped = S_ISREG(one->of.st_mode) && is_whole && !(to->flags & KUMQUATSIEVE_COPY);
+    why = is_mapped ? map_file(from->file, one) : ENODEV;
+    *is_tested =
+        why == 0 && has_record(from->directory, from->name, from->file, &one->of, first->layout);
+    if (why == ENODEV) why = read_rest(from->file, first, one);
+    if (why != 0) return fail_file(error, why, number, one->path);
+    *is_tested = *is_tested || is_trusted(one, to->flags);
+    return code;
 }
 
-/* Reads an image into memory and loads it. */
-static uint32_t read_and_load(const opened *from, const request *to) {
-    kumquatsieve_buffer whole = KUMQUATSIEVE_NO_BYTES;
-    bool skip = !(to->how & KUMQUATSIEVE_TEST_DIGEST);
-    int error = read_rest(from->file, &from->first, &from->of, &whole);
-    if (error != 0) {
-        kumquatsieve_buffer_free(&whole);
-        return fail_file(error, to->number);
-    }
-    return to->is_user ? kumquatsieve_add_user_buffer(to->cutter, &whole, skip, to->number)
-                       : kumquatsieve_load_buffer(to->cutter, &whole, skip, to->number);
-}
-
-/* Loads an image with a valid header. A regular file with the length in the header is mapped. */
-static uint32_t load_opened(const opened *from, const request *to) {
-    bool is_whole = from->first.length == HEADER_LENGTH &&
-                    (uint64_t)from->of.st_size == from->first.image_length;
-    bool is_mapped = S_ISREG(from->of.st_mode) && is_whole && !(to->how & KUMQUATSIEVE_COPY);
+/* Opens the files of all images up to the first that can't be opened, and sets *count to their
+   number. */
+static uint32_t open_files(kumquatsieve_dictionary *to, const char *name, const char *const *users,
+                           opened *files, size_t *count, kumquatsieve_error *error) {
     uint32_t code = KUMQUATSIEVE_OK;
-    if (is_mapped && map_and_load(from, to, &code) == 0) return code;
-    return read_and_load(from, to);
-}
-
-static uint32_t open_and_load(const char *path, const request *to) {
-    opened from = {.directory = -1, .file = -1};
-    int error = open_file(path, !(to->how & (KUMQUATSIEVE_TEST_DIGEST | KUMQUATSIEVE_COPY)), &from);
-    if (error == 0 && state_of(from.file, &from.of) != 0) error = errno;
-    if (error == 0) error = read_header(from.file, &from.first);
-    uint32_t code =
-        error == 0 ? judge_header(&from.first, &from.of, to->number) : fail_file(error, to->number);
-    if (code == KUMQUATSIEVE_OK) code = load_opened(&from, to);
-    close_file(&from.file);
-    close_file(&from.directory);
+    for (*count = 0; *count < to->count; ++*count) {
+        const char *one = *count == 0 ? name : users[*count - 1];
+        code = open_image(to, *count, one, &files[*count], error);
+        if (code != KUMQUATSIEVE_OK) break;
+    }
     return code;
 }
 
-static uint32_t open_by(const char *path, const request *to) {
-    if (!path || (to->how & ~(unsigned)ALL_HOW) != 0) return fail_file(EINVAL, to->number);
-    if (to->is_user && !to->cutter->held) return KUMQUATSIEVE_EMPTY_CUTTER;
-    if (!to->is_user && to->cutter->held) return KUMQUATSIEVE_FULL_CUTTER;
-    return open_and_load(path, to);
+/* Whether all files are regular. Others have their bytes once. */
+static bool is_regular(const kumquatsieve_dictionary *of) {
+    for (size_t i = 0; i < of->count; i++) {
+        if (!S_ISREG(of->images[i].of.st_mode)) return false;
+    }
+    return true;
 }
 
-uint32_t kumquatsieve_open(kumquatsieve_cutter *cutter, const char *path, unsigned how,
-                           uint64_t *number) {
-    uint64_t unread = 0;
-    return open_by(path, &(request){cutter, false, how, number ? number : &unread});
+/* Returns an open dictionary that has the same files, with one more holder, or NULL. */
+static kumquatsieve_dictionary *find_open(const kumquatsieve_dictionary *like) {
+    return is_regular(like) ? find_dictionary(like) : NULL;
 }
 
-uint32_t kumquatsieve_open_user(kumquatsieve_cutter *cutter, const char *path, unsigned how,
-                                uint64_t *number) {
-    uint64_t unread = 0;
-    return open_by(path, &(request){cutter, true, how, number ? number : &unread});
-}
-
-uint32_t kumquatsieve_share(kumquatsieve_cutter *cutter, kumquatsieve_cutter *other) {
-    uint32_t code = proved_share(cutter, other);
-    if (code == KUMQUATSIEVE_OK) cutter->mapped = hold_mapped(other->mapped);
+/* Loads the images of the first `count` files. */
+static uint32_t load_files(loading *of, opened *files, size_t count, kumquatsieve_error *error) {
+    uint32_t code = KUMQUATSIEVE_OK;
+    bool is_tested = false;
+    while (code == KUMQUATSIEVE_OK && of->number < count) {
+        code = take_bytes(of->to, of->number, &files[of->number], &is_tested, error);
+        if (code == KUMQUATSIEVE_OK) code = load_next(of, is_tested, error);
+    }
     return code;
 }
 
-/* The core forgets the bytes of its images before they are unmapped. */
-void kumquatsieve_free(kumquatsieve_cutter *cutter) {
-    if (!cutter) return;
-    proved_free(cutter);
-    release_mapped(cutter->mapped);
-    cutter->mapped = NULL;
+/* Fills a new dictionary, and sets *found to it, or to an open one that has the same files. If an
+   image can't be opened, the errors of those before it are reported first. */
+static uint32_t open_all(kumquatsieve_dictionary *made, const char *name, const char *const *users,
+                         kumquatsieve_dictionary **found, kumquatsieve_error *error) {
+    size_t count = 0;
+    kumquatsieve_error later;
+    loading of = {.to = made, .skip_digest = !(made->flags & KUMQUATSIEVE_TEST_DIGEST)};
+    opened *files = malloc(made->count * sizeof *files);
+    if (!files) return fail(error, KUMQUATSIEVE_MEMORY);
+    for (size_t i = 0; i < made->count; i++) files[i] = (opened){.directory = -1, .file = -1};
+    uint32_t rest = open_files(made, name, users, files, &count, &later);
+    *found = rest == KUMQUATSIEVE_OK ? find_open(made) : NULL;
+    uint32_t code = *found ? KUMQUATSIEVE_OK : load_files(&of, files, count, error);
+    close_all(files, made->count);
+    if (*found || code != KUMQUATSIEVE_OK) return code;
+    if (rest == KUMQUATSIEVE_OK) return end_loading(&of, error);
+    if (error) *error = later;
+    return rest;
 }
 
-/* The core has the names of all codes but KUMQUATSIEVE_FILE. */
-uint32_t(kumquatsieve_fault)(uint32_t code, uint8_t *out, size_t room, size_t *needed) {
-    static const char TEXT[] = "F1 File";
-    if (code != KUMQUATSIEVE_FILE) return proved_fault(code, out, room, needed);
-    *needed = strlen(TEXT);
-    if (room < *needed) return KUMQUATSIEVE_SHORT_BUFFER;
-    memcpy(out, TEXT, *needed);
-    return KUMQUATSIEVE_OK;
+uint32_t kumquatsieve_dictionary_open(kumquatsieve_dictionary **dictionary, const char *name,
+                                      const char *const *users, size_t count, uint32_t flags,
+                                      kumquatsieve_error *error) {
+    bool is_valid = (flags & ~(uint32_t)OPEN_FLAGS) == 0 && count < SIZE_MAX;
+    for (size_t i = 0; is_valid && i < count; i++) is_valid = users && users[i];
+    if (!is_valid) return fail(error, KUMQUATSIEVE_BAD_ARGUMENT);
+    kumquatsieve_dictionary *found = NULL,
+                            *made = new_dictionary(count + 1,
+                                                   flags & ~(uint32_t)KUMQUATSIEVE_SKIP_DIGEST);
+    if (!made) return fail(error, KUMQUATSIEVE_MEMORY);
+    uint32_t code = open_all(made, name, users, &found, error);
+    bool is_new = code == KUMQUATSIEVE_OK && !found;
+    if (!is_new) kumquatsieve_dictionary_release(made);
+    if (is_new) found = is_regular(made) ? list_dictionary(made) : made;
+    if (code == KUMQUATSIEVE_OK) succeed(error);
+    if (code == KUMQUATSIEVE_OK && dictionary)
+        *dictionary = found;
+    else
+        kumquatsieve_dictionary_release(found);
+    return code;
 }

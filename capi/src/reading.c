@@ -10,15 +10,7 @@
 
 static const char MAGIC[] = "MJDICT\r\n";
 
-enum {
-    BLOCK = 65536,
-    LAYOUT_AT = 8,
-    LENGTHS_AT = 40,
-    SECTIONS = 8,
-    AFTER_SECTIONS = 9,
-    LAYOUT_NEWEST = 3,
-    DIGEST_LENGTH = 32,
-};
+enum { BLOCK = 65536, LAYOUT_AT = 8, LENGTHS_AT = 40, SECTIONS = 8, AFTER_SECTIONS = 9 };
 
 int read_header(int file, header *to) {
     ssize_t got = 1;
@@ -31,7 +23,7 @@ int read_header(int file, header *to) {
     return 0;
 }
 
-static uint64_t number_at(const uint8_t *bytes, size_t size) {
+uint64_t number_at(const uint8_t *bytes, size_t size) {
     uint64_t number = 0;
     memcpy(&number, bytes, size);
     return le64toh(number);
@@ -39,7 +31,7 @@ static uint64_t number_at(const uint8_t *bytes, size_t size) {
 
 /* Sets the length of the whole image. Returns false if it exceeds 64 bits. */
 static bool sum_lengths(header *of) {
-    of->image_length = HEADER_LENGTH + (of->layout == LAYOUT_NEWEST ? DIGEST_LENGTH : 0);
+    of->image_length = HEADER_LENGTH + (of->layout == NEWEST_LAYOUT ? SHA256_LENGTH : 0);
     for (size_t section = 0; section < SECTIONS; section++) {
         uint64_t length = number_at(of->bytes + LENGTHS_AT + 8 * section, 8);
         if (__builtin_add_overflow(of->image_length, length, &of->image_length)) return false;
@@ -47,19 +39,16 @@ static bool sum_lengths(header *of) {
     return true;
 }
 
-/* Returns the length of a file, or UINT64_MAX if it is unknown: some file systems report 0 for a
-   regular file that has bytes. */
-static uint64_t known_length(const struct stat *file) {
+uint64_t known_length(const struct stat *file) {
     bool is_known = S_ISREG(file->st_mode) && file->st_size >= HEADER_LENGTH;
     return is_known ? (uint64_t)file->st_size : UINT64_MAX;
 }
 
-uint32_t judge_header(header *of, const struct stat *file, uint64_t *number) {
-    uint64_t length = known_length(file);
+uint32_t judge_header(header *of, uint64_t length, uint64_t *number) {
     if (of->length < HEADER_LENGTH) return KUMQUATSIEVE_OK;
     of->layout = number_at(of->bytes + LAYOUT_AT, 4);
     if (memcmp(of->bytes, MAGIC, sizeof MAGIC - 1) != 0) return KUMQUATSIEVE_BAD_MAGIC;
-    if (of->layout < 1 || of->layout > LAYOUT_NEWEST) {
+    if (of->layout < 1 || of->layout > NEWEST_LAYOUT) {
         *number = of->layout;
         return KUMQUATSIEVE_BAD_LAYOUT;
     }
@@ -70,32 +59,28 @@ uint32_t judge_header(header *of, const struct stat *file, uint64_t *number) {
     return KUMQUATSIEVE_BAD_SECTION;
 }
 
-/* Appends the rest of a file, of which `length` bytes were read. Stops when more than `most` bytes
-   were read in all. Returns 0 or an errno. */
-static int read_past(int file, uint64_t length, uint64_t most, kumquatsieve_buffer *whole) {
+/* Appends the rest of a file. Stops when more than `most` bytes were read in all. Returns 0 or an
+   errno. */
+static int read_past(int file, uint64_t most, image *to) {
     ssize_t got = 1;
     int error = 0;
     uint8_t *block = malloc(BLOCK);
     if (!block) return ENOMEM;
-    while (error == 0 && got > 0 && length <= most) {
+    while (error == 0 && got > 0 && to->length <= most) {
         got = read(file, block, BLOCK);
-        if (got < 0) error = errno;
-        if (got <= 0) break;
-        length += (uint64_t)got;
-        uint32_t code = kumquatsieve_buffer_append(whole, 0, block, (size_t)got);
-        if (code != KUMQUATSIEVE_OK) error = ENOMEM;
+        error = got < 0 ? errno : append_bytes(to, block, (size_t)got);
     }
     free(block);
     return error;
 }
 
-/* Allocates room for all bytes at once if the length is known, so that none is moved. */
-int read_rest(int file, const header *first, const struct stat *of, kumquatsieve_buffer *whole) {
+/* Makes room for all bytes at once if the length is known, so that none is moved. */
+int read_rest(int file, const header *first, image *to) {
     bool is_short = first->length < HEADER_LENGTH;
-    bool is_known =
-        !is_short && known_length(of) == first->image_length && first->image_length < SIZE_MAX;
-    size_t room = is_known ? (size_t)first->image_length : first->length;
-    uint32_t code = kumquatsieve_buffer_append(whole, room, first->bytes, first->length);
-    if (code != KUMQUATSIEVE_OK) return ENOMEM;
-    return is_short ? 0 : read_past(file, first->length, first->image_length, whole);
+    bool is_known = !is_short && known_length(&to->of) == first->image_length;
+    int error = 0;
+    if (is_known && first->image_length > PTRDIFF_MAX) return ENOMEM;
+    if (is_known) error = make_room(to, (size_t)first->image_length);
+    if (error == 0) error = append_bytes(to, first->bytes, first->length);
+    return error != 0 || is_short ? error : read_past(file, first->image_length, to);
 }

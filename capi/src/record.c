@@ -1,6 +1,6 @@
 /* Records of images that passed all tests. A false record could make this process read outside an
    image. So a record is believed only if nobody but root and the effective user can have written it
-   or the image. docs/LIBRARY.md has the rules for users. */
+   or the image. docs/C_API.md has the rules for users. */
 #include "library.h"
 #include <fcntl.h>
 #include <inttypes.h>

@@ -1,5 +1,5 @@
 /* Log messages of the option -v. */
-#include "cut.h"
+#include "pjseg.h"
 #include <stdarg.h>
 #include <stdio.h>
 #include <stdlib.h>
@@ -7,20 +7,20 @@
 #include <unistd.h>
 
 /* Set before the first thread is created. */
-static bool narrated;
+static bool verbose;
 static struct timespec began;
 
-void begin_narration(void) { narrated = clock_gettime(CLOCK_MONOTONIC, &began) == 0; }
+void start_log(void) { verbose = clock_gettime(CLOCK_MONOTONIC, &began) == 0; }
 
-bool is_narrated(void) { return narrated; }
+bool is_verbose(void) { return verbose; }
 
-bool is_heard(void) { return narrated || isatty(STDERR_FILENO); }
+bool is_heard(void) { return verbose || isatty(STDERR_FILENO); }
 
 void say(const char *format, ...) {
     struct timespec now;
     va_list words;
     char *text = NULL;
-    if (!narrated || clock_gettime(CLOCK_MONOTONIC, &now) != 0) return;
+    if (!verbose || clock_gettime(CLOCK_MONOTONIC, &now) != 0) return;
     long hundredths = (now.tv_sec - began.tv_sec) * 100 + (now.tv_nsec - began.tv_nsec) / 10000000;
     va_start(words, format);
     int made = vasprintf(&text, format, words);

@@ -1,14 +1,14 @@
-/* kumquatsieve-cut: declarations that its files share. N threads segment standard input over one
+/* pjseg: declarations that its files share. N threads segment standard input over one
    dictionary, and write the bytes that jseg writes. */
-#ifndef CUT_H
-#define CUT_H
+#ifndef PJSEG_H
+#define PJSEG_H
 #define _GNU_SOURCE
 #include <kumquatsieve.h>
 #include <stdbool.h>
 #include <stddef.h>
 #include <stdint.h>
 
-#define PROGRAM "kumquatsieve-cut"
+#define PROGRAM "pjseg"
 
 enum {
     GROUPING_DEFAULT = 24,
@@ -38,12 +38,12 @@ typedef struct fault {
 } fault;
 
 /* The options of a command line. A format that was not given is NULL. `main` frees `dic` and
-   `users`. `how` is the argument of kumquatsieve_open. */
+   `users`. `flags` are those of kumquatsieve_dictionary_open. */
 typedef struct options {
     char *dic;
     char **users;
     size_t user_count;
-    unsigned how;
+    uint32_t flags;
     const char *node, *unk, *bos, *eos;
     bool is_wakati;
     uint32_t grouping;
@@ -55,38 +55,38 @@ typedef struct options {
    was printed, and the program ends with *status. */
 bool read_options(int count, char **words, options *asked, int *status);
 
-/* habits.c. Return what to do instead of an option of jseg or MeCab, by its letter, which is not 0,
-   or by its word, or instead of the name of an output format; or NULL if none is known. */
+/* rejected_options.c. Return what to do instead of an option of jseg or MeCab, by its letter, which
+   is not 0, or by its word, or instead of the name of an output format; NULL if none is known. */
 const char *instead_of_letter(char letter);
 const char *instead_of_word(const char *word);
 const char *instead_of_output(const char *name);
 /* The texts of --help and --version. */
 extern const char HELP[], VERSION[];
 
-/* telling.c. Each message is one write on standard error, if there is memory for it. A write that
+/* printing.c. Each message is one write on standard error, if there is memory for it. A write that
    fails is ignored. The line of the progress is erased before it. */
 
 /* Prints a message. */
 void tell(const char *format, ...) __attribute__((format(printf, 1, 2)));
 
 /* Prints a message about the command line, and a hint at --help. */
-void tell_wrong(const char *format, ...) __attribute__((format(printf, 1, 2)));
+void print_usage_error(const char *format, ...) __attribute__((format(printf, 1, 2)));
 
 /* Prints an error in one line. Returns the exit status. */
-int tell_fault(const fault *why);
+int print_fault(const fault *why);
 
-/* Print more about an error, on a terminal or with -v: its reason, and where it is explained. */
-void tell_why(const options *asked, const fault *why);
-void tell_explanation(const fault *why);
+/* Print hints for an error, on a terminal or with -v: its reason, and how to explain its code. */
+void print_cause(const options *asked, const fault *why);
+void print_explanation(const fault *why);
 
 /* Prints a text on standard output. Returns false if that fails. */
 bool print_text(const char *text);
 
-/* narrator.c. Turns the log messages of -v on. */
-void begin_narration(void);
+/* reporter.c. Turns the log messages of -v on. */
+void start_log(void);
 
 /* Whether they are on. */
-bool is_narrated(void);
+bool is_verbose(void);
 
 /* Whether a person reads standard error: with -v, and on a terminal. */
 bool is_heard(void);
@@ -125,19 +125,24 @@ const char *next_text(const texts *list, const char *text);
 /* Whether a directory has a dictionary of MeCab. */
 bool is_mecab_directory(const char *path);
 
-/* missing.c. Prints where an image was looked for, on a terminal or with -v, if the error is that
-   no image has the name. */
+/* missing.c. Prints the directories that were searched for an image, and the images in them, on a
+   terminal or with -v. Prints nothing unless the error is that no image has the name. */
 void tell_image_directories(const fault *why);
 
 /* formats.c. Checks the format of the options. Returns false, and sets *why, if it is invalid. */
 bool check_format(const options *asked, fault *why);
 
-/* Sets the format of a cutter with a dictionary. Returns false, and sets *why, after an error. */
-bool set_format(const options *asked, kumquatsieve_cutter *cutter, fault *why);
+/* Sets the format of a segmenter with a dictionary. Returns false and sets *why after an error. */
+bool set_format(const options *asked, kumquatsieve_segmenter *segmenter, fault *why);
 
-/* dictionary.c. Fills an empty cutter with the images, the format and the grouping of the options.
-   Returns false, and sets *why, after an error. */
-bool make_cutter(const options *asked, kumquatsieve_cutter *cutter, fault *why);
+/* dictionary.c. Checks the format, and opens the images of the options. Returns false, and sets
+ *why, after an error. */
+bool open_dictionary(const options *asked, kumquatsieve_dictionary **dictionary, fault *why);
+
+/* Fills an empty segmenter with the dictionary, and the format and the grouping of the options,
+   which are valid. Returns false if memory runs out. */
+bool make_segmenter(const options *asked, kumquatsieve_dictionary *dictionary,
+                    kumquatsieve_segmenter *segmenter);
 
 /* pieces.c. Reads standard input in pieces of whole lines. The limits are in bytes: READ_MOST for a
    read, LINE_MOST for a line, both as in jseg. Every piece but the last has PIECE_MOST bytes or
@@ -175,19 +180,19 @@ void read_piece(input *in, piece *next, size_t least);
 
 /* groups.c. A piece that is segmented group by group, and the output that waits to be written.
 
-   The output of the last group lies in the cutter's own buffer: `out`, with the group's `lines` or,
-   if `code` is an error, the number of the invalid line. The output of the groups before it is
+   The output of the last group lies in the segmenter's own buffer: `out`, with the group's `lines`
+   or, if `code` is an error, the number of the invalid line. The output of the groups before it is
    copied to `kept`. Both come from the text between `written_to` and `cut_to`. `printed` is the
    output of the whole piece so far, in bytes. */
 typedef struct place {
     piece text;
     uint64_t number;
-    kumquatsieve_cutter cutter;
+    kumquatsieve_segmenter segmenter;
     size_t group, written_to, cut_to;
     uint8_t *kept;
     size_t kept_length, kept_room;
     uint64_t kept_lines;
-    const uint8_t *out;
+    const char *out;
     size_t out_length;
     uint64_t lines;
     uint32_t code;
@@ -198,9 +203,9 @@ typedef struct place {
 /* How many bytes of output a place keeps at most. */
 enum { KEPT_MOST = 16777216 };
 
-/* Makes a place whose cutter shares the dictionaries of `cutter`. Returns false if memory runs out.
-   The caller frees the place in each case. */
-bool make_place(place *own, kumquatsieve_cutter *cutter);
+/* Makes a place with a segmenter over the dictionary. Returns false if memory runs out. The caller
+   frees the place in each case. */
+bool make_place(place *own, const options *asked, kumquatsieve_dictionary *dictionary);
 void free_place(place *own);
 
 /* Prepares a place for the piece that was read into it. */
@@ -208,7 +213,7 @@ void begin_piece(place *own);
 
 /* Segments the next group. Returns whether another one follows: false at the end of the piece, and
    after an error. */
-bool cut_group(place *own);
+bool segment_group(place *own);
 
 /* Copies the output of the last group to what is kept. Returns false, and changes nothing, if it
    does not fit, or if no memory can be allocated for it. */
@@ -244,9 +249,9 @@ void erase_progress(void);
    Returns false if a write fails or writes none. */
 bool write_out(const uint8_t *at, size_t length, uint64_t *taken);
 
-/* queue.c. Segments standard input with `threads` threads, and writes its lines in the format. Sets
-   *lines to their number. An error of the text, of a read or of a write ends the program after the
+/* queue.c. Segments standard input by the options, and writes its lines. Sets *lines to their
+   number. An error of the text, of a read or of a write ends the program after the
    output before it was written. Returns false if memory runs out before the first read. */
-bool cut_input(kumquatsieve_cutter *cutter, uint32_t threads, uint64_t *lines);
+bool segment_input(const options *asked, kumquatsieve_dictionary *dictionary, uint64_t *lines);
 
 #endif

@@ -1,5 +1,5 @@
 /* Prints messages and errors on standard error, and texts on standard output. */
-#include "cut.h"
+#include "pjseg.h"
 #include <errno.h>
 #include <stdarg.h>
 #include <stdio.h>
@@ -16,8 +16,8 @@ static void write_once(const char *text) {
 }
 
 /* Prints a message between two texts, in one write if there is memory for it. */
-static void tell_between(const char *before, const char *behind, const char *format,
-                         va_list words) {
+static void print_between(const char *before, const char *behind, const char *format,
+                          va_list words) {
     char *text = NULL, *whole = NULL;
     if (vasprintf(&text, format, words) < 0) {
         write_once(PROGRAM ": Memory\n");
@@ -35,14 +35,14 @@ static void tell_between(const char *before, const char *behind, const char *for
 void tell(const char *format, ...) {
     va_list words;
     va_start(words, format);
-    tell_between(PROGRAM ": ", "\n", format, words);
+    print_between(PROGRAM ": ", "\n", format, words);
     va_end(words);
 }
 
-void tell_wrong(const char *format, ...) {
+void print_usage_error(const char *format, ...) {
     va_list words;
     va_start(words, format);
-    tell_between(PROGRAM ": ", "\n\nFor more information, try '--help'.\n", format, words);
+    print_between(PROGRAM ": ", "\n\nFor more information, try '--help'.\n", format, words);
     va_end(words);
 }
 
@@ -57,19 +57,16 @@ static void name_of(uint32_t code, char *name, size_t room) {
         uint32_t code;
         const char *name;
     } OTHERS[] = {
-        {KUMQUATSIEVE_FILE, "F1 File"},
         {FAULT_OUTPUT, "F2 Output"},
         {FAULT_READ, "G1 Read"},
         {FAULT_WRITE, "G2 Write"},
         {FAULT_INPUT_TOO_LONG, "G5 InputTooLong"},
     };
-    size_t length = 0;
+    const char *text = kumquatsieve_explain(code);
     for (size_t i = 0; i < sizeof OTHERS / sizeof *OTHERS; i++) {
         if (OTHERS[i].code == code) snprintf(name, room, "%s", OTHERS[i].name);
     }
-    if (kumquatsieve_fault(code, (uint8_t *)name, room - 1, &length) == KUMQUATSIEVE_OK &&
-        length > 0)
-        name[length] = '\0';
+    if (text) snprintf(name, room, "%.*s", (int)strcspn(text, "\n"), text);
 }
 
 static bool has_number(uint32_t code) {
@@ -83,7 +80,7 @@ static bool has_number(uint32_t code) {
     }
 }
 
-static void tell_of_path(const fault *why, const char *name) {
+static void print_path_error(const fault *why, const char *name) {
     char *path = one_line(why->path);
     if (!path) {
         tell("Memory");
@@ -106,11 +103,11 @@ static int status_of(uint32_t code) {
 }
 
 /* Prints an error. Returns the exit status. */
-int tell_fault(const fault *why) {
+int print_fault(const fault *why) {
     char name[64] = "";
     name_of(why->code, name, sizeof name);
     if (why->path) {
-        tell_of_path(why, name);
+        print_path_error(why, name);
     } else if (why->code == KUMQUATSIEVE_MEMORY || why->code == FAULT_OUTPUT) {
         tell("%s", name);
     } else if (why->code == FAULT_WRITE || why->code >> 8 == 'P') {
@@ -134,7 +131,7 @@ static int columns_of(const char *text) {
 }
 
 /* Prints a text in one line, and a mark below the byte `at`. */
-static void tell_mark(const char *text, size_t at) {
+static void print_mark(const char *text, size_t at) {
     char *front = strndup(text, at), *before = front ? one_line(front) : NULL,
          *line = one_line(text);
     if (before && line) {
@@ -146,42 +143,41 @@ static void tell_mark(const char *text, size_t at) {
     free(front);
 }
 
-static void tell_format(const options *asked, const fault *why) {
+static void print_format(const options *asked, const fault *why) {
     const char *const texts[] = {asked->node, asked->unk, asked->bos, asked->eos};
-    tell("the fault is in the text of %s", OPTION_OF_PART[why->part % 4]);
-    if (texts[why->part % 4]) tell_mark(texts[why->part % 4], why->number);
+    tell("the error is in the format of %s", OPTION_OF_PART[why->part % 4]);
+    if (texts[why->part % 4]) print_mark(texts[why->part % 4], why->number);
 }
 
 /* Returns why a file can't be opened, read or mapped, by its errno. */
 static const char *reason_of(uint64_t error) {
     switch (error) {
-    case ENOENT: return "it is not there";
-    case EISDIR: return "it is a directory";
+    case ENOENT: return "no such file or directory";
+    case EISDIR: return "is a directory";
     case EACCES:
-    case EPERM: return "permission to read it is missing";
-    case EIO: return "a read of it failed";
+    case EPERM: return "permission denied";
+    case EIO: return "a read failed";
     default: return strerror((int)error);
     }
 }
 
-static void tell_reason(const char *of, uint64_t error) {
+static void print_reason(const char *of, uint64_t error) {
     char *path = one_line(of);
     if (path) tell("%s: %s", path, reason_of(error));
     free(path);
 }
 
 /* Prints why a file can't be read, or which option has the invalid format, and where. */
-void tell_why(const options *asked, const fault *why) {
+void print_cause(const options *asked, const fault *why) {
     if (!is_heard()) return;
-    if (why->code == KUMQUATSIEVE_FILE) tell_reason(why->path, why->number);
-    if (why->code >> 8 == 'P') tell_format(asked, why);
+    if (why->code == KUMQUATSIEVE_FILE) print_reason(why->path, why->number);
+    if (why->code >> 8 == 'P') print_format(asked, why);
 }
 
 /* Prints the command of jseg that explains an error. */
-void tell_explanation(const fault *why) {
+void print_explanation(const fault *why) {
     char name[64] = "";
     name_of(why->code, name, sizeof name);
     if (is_heard())
-        tell("'jseg --explain %.*s' prints what that means and what to do", (int)strcspn(name, " "),
-             name);
+        tell("'jseg --explain %.*s' explains this error", (int)strcspn(name, " "), name);
 }
