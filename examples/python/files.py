@@ -3,25 +3,21 @@ import argparse
 import sys
 from concurrent.futures import ThreadPoolExecutor
 
-from kumquatsieve import Cutter, Fault
+from kumquatsieve import KumquatsieveError, Segmenter
 
 options = argparse.ArgumentParser(description=__doc__)
 options.add_argument("image", metavar="IMAGE", help="an image, by its path or its name")
 options.add_argument("texts", metavar="TEXT", nargs="+", help="a file")
 arguments = options.parse_args()
-
-
-def segment(path: str) -> tuple[str, int]:
-    """Segments one text. Returns its path, and how many characters were replaced."""
-    with cutter.share() as own, open(path, "rb") as text, open(path + ".words", "wb") as words:
-        lines = own.wakati_lines(text, errors="replace")
-        words.writelines(line.encode() + b"\n" for line in lines)
-    return path, lines.replaced
-
-
 try:
-    with Cutter(arguments.image) as cutter, ThreadPoolExecutor(4) as threads:
-        for path, replaced in threads.map(segment, arguments.texts):
-            print(path, "was cut,", replaced, "characters were replaced")
-except (OSError, Fault) as error:
+    segmenter = Segmenter(arguments.image)
+
+    def segment(path: str) -> None:
+        with open(path, "rb") as text, open(path + ".words", "wb") as words:
+            lines = segmenter.wakati_lines(text)
+            words.writelines(line.encode() + b"\n" for line in lines)
+        print(f"{path}: {lines.replaced} characters were replaced\n", end="")
+
+    list(ThreadPoolExecutor(4).map(segment, arguments.texts))
+except (OSError, KumquatsieveError) as error:
     sys.exit(f"files.py: {error}")

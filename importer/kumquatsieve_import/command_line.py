@@ -13,25 +13,25 @@ USAGE = (
     "or kumquatsieve-import [-v] --test [--] IMG.."
 )
 HELP = """\
-Compiles a directory of MeCab's sources, or lexicons of your own, to an image for jseg
+Compiles the sources of a MeCab dictionary, or the lexicons of a user dictionary, to an image
 
 Usage: kumquatsieve-import [OPTIONS] DIR|ipadic|juman|naist|unidic [IMG]
        kumquatsieve-import [OPTIONS] --user <DIC> --out <IMG> LEX..
        kumquatsieve-import [-v] --test IMG..
 
 Arguments:
-  DIR                A directory of MeCab's sources
-  ipadic|..|unidic   The sources of this dictionary that a Debian package installed
-  IMG                The image to write, else it is installed by its name; the images to test
-  LEX                A lexicon of a user dictionary
+  DIR                Directory of MeCab sources
+  ipadic|..|unidic   Sources of this dictionary, as installed by a Debian package
+  IMG                Image to write [default: installed by name]; with --test, images to verify
+  LEX                Lexicon of a user dictionary
 
 Options:
-  --encoding <NAME>  The encoding of the sources, else it is found from them: utf-8, euc-jp,
-                     euc-jis-2004, cp932 or iso-2022-jp
-  --user <DIC>       Compile lexicons for a system dictionary, the path or name of an image
-  --out <IMG>        The image of the lexicons
-  --test             Test images whole, and record in NAME.tested which passed
-  -v, --verbose      Print each step on standard error
+  --encoding <NAME>  Encoding of the sources: utf-8, euc-jp, euc-jis-2004, cp932 or iso-2022-jp
+                     [default: detected from the sources]
+  --user <DIC>       Compile a user dictionary for this system dictionary, given by path or name
+  --out <IMG>        Image of the user dictionary to write
+  --test             Verify images completely, and record in NAME.tested that they passed
+  -v, --verbose      Print each step to standard error
   -h, --help         Print help
 """
 # The options with a value.
@@ -81,7 +81,7 @@ def argument_bytes(arguments: List[str]) -> List[bytes]:
     try:
         return list(map(os.fsencode, arguments))
     except UnicodeEncodeError as error:
-        why = "an argument can't be read in this locale: set LC_ALL to C.UTF-8"
+        why = "an argument cannot be decoded in this locale: set LC_ALL to C.UTF-8"
         raise Error(USAGE_ERROR, why) from error
 
 
@@ -99,7 +99,7 @@ def utf_8_arguments(arguments: List[str]) -> List[str]:
 def parse_encoding(name: str) -> Encoding:
     found = encoding_named(name)
     if found is None:
-        message = f"--encoding {printable(name)} is not known; it takes {CHOICES}"
+        message = f"--encoding {printable(name)} is not supported; choose {CHOICES}"
         raise Error(USAGE_ERROR, message)
     return found
 
@@ -138,8 +138,8 @@ class Options:
             self.values[name] = value if equals else rest.pop(0)
         else:
             raise usage_error(
-                f"{printable(argument)} is no option, or lacks its value; "
-                "a name that begins with - stands after --"
+                f"{printable(argument)} is not an option, or its value is missing; "
+                "write a file name that starts with - after --"
             )
 
 
@@ -161,7 +161,7 @@ def parse_arguments(arguments: Sequence[str]) -> Choices:
 def choose_test(options: Options) -> Choices:
     images = options.operands
     if not images or b"" in images or options.values:
-        raise usage_error("--test wants images, and no other option but -v")
+        raise usage_error("--test requires images, and excludes all options except -v")
     return Choices(b"", None, None, options.is_verbose, False, images=tuple(images))
 
 
@@ -169,16 +169,16 @@ def choose_user_import(options: Options, encoding: Optional[Encoding]) -> Choice
     name, image = (as_bytes(options.values.get(one, "")) for one in ("--user", "--out"))
     lexicons = options.operands
     if not name or not image or not lexicons or b"" in lexicons:
-        raise usage_error("a user's dictionary wants --user, --out and a lexicon")
+        raise usage_error("a user dictionary requires --user, --out and a lexicon")
     return Choices(name, image, encoding, options.is_verbose, False, tuple(lexicons))
 
 
 def choose_import(options: Options, encoding: Optional[Encoding]) -> Choices:
     names = options.operands
     if not 1 <= len(names) <= 2 or b"" in names:
-        raise usage_error("a folder is wanted, and the image to write")
+        raise usage_error("a directory of sources and the image to write are required")
     name, image = names[0], names[1] if len(names) == 2 else None
     if image is None and (b"/" in name or name.startswith(b".")):
-        message = f"give the image to write: kumquatsieve-import {printable(name)} IMG"
+        message = f"the image to write is missing: kumquatsieve-import {printable(name)} IMG"
         raise Error(USAGE_ERROR, message)
     return Choices(name, image, encoding, options.is_verbose, False)

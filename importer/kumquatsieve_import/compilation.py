@@ -35,7 +35,7 @@ def program_beside(own: bytes, name: bytes) -> bytes:
     beside = os.path.join(own, name)
     found = beside if os.access(beside, os.X_OK) else shutil.which(name)
     if found is None:
-        message = f"{printable(name)} is neither in {printable(own)} nor on the path"
+        message = f"{printable(name)} is neither in {printable(own)} nor on the PATH"
         raise Error(FILE, message)
     return os.path.abspath(found)
 
@@ -163,7 +163,7 @@ def status_of(child: "subprocess.Popen[bytes]", program: str) -> int:
     """Returns the exit status of a process. It is an error if a signal ended it."""
     status = child.wait()
     if status < 0:
-        message = f"{program} was ended by signal {-status}"
+        message = f"{program} was killed by signal {-status}"
         raise Error(MEMORY if status == -9 else FILE, message)
     return status
 
@@ -195,7 +195,7 @@ class Compilation:
     def log_position(self, process: int) -> None:
         """Logs how much dictc has read of a large source, such as matrix.def."""
         for path, at in positions_of(process, self.sizes) if self.reporter.logs_steps else ():
-            self.reporter.log_progress(f"dictc reads {printable(path)}", at, self.sizes[path])
+            self.reporter.log_progress(f"dictc is reading {printable(path)}", at, self.sizes[path])
         self.reporter.tick()
 
     def watch(self, child: "subprocess.Popen[bytes]", image: ImageFile, folder: bytes) -> List[str]:
@@ -238,14 +238,14 @@ class Compilation:
         except OSError as error:
             raise Error(FILE, f"{printable(command[0])}: {reason_of(error)}") from error
         assert child.stdout
-        self.reporter.start_step("dictc begins")
+        self.reporter.start_step("starting dictc")
         messages = self.watch(child, image, folder)
         counts = child.stdout.read().decode().rstrip("\n")
         status = status_of(child, "dictc")
         if status:
             for line in messages[:-1]:
                 self.reporter.log(line)
-            message = messages[-1] if messages else f"dictc ended with status {status}"
+            message = messages[-1] if messages else f"dictc exited with status {status}"
             raise Error(status, message)
         image.finish()
         return counts

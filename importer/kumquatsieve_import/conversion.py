@@ -20,7 +20,7 @@ EMPTY = rb'[ \t]*(?:"[ \t]*"(?!")[^,\n]*)?,'
 UNNUMBERED = re.compile(rb"(?m)^" + SURFACE + rb"(?:" + FIELD + rb"){0,2}?" + EMPTY)
 # Each such line contains one of these.
 EMPTY_FIELDS = (b",,", b", ", b",\t", b',"')
-NO_NUMBER = "its ids or its cost are empty"
+NO_NUMBER = "an id or the cost is empty"
 
 # The number of a line that is left out, and the reason.
 LeftOut = Tuple[int, str]
@@ -43,7 +43,7 @@ def decode_chunk(chunk: bytes, first: int, encoding: Encoding, left_out: List[Le
             lines[at] = encoding.decode(line).encode()
         except ValueError:
             lines[at] = b""
-            left_out.append((first + at, f"it is not {encoding.name}"))
+            left_out.append((first + at, f"not {encoding.name}"))
     return b"\n".join(lines)
 
 
@@ -90,7 +90,7 @@ def is_unchanged(source: Source, encoding: Encoding, reporter: Reporter) -> bool
         if chunk != text:
             return False
         done += len(chunk)
-        reporter.log_progress(f"looking at {printable(source.path)}", done, source.size)
+        reporter.log_progress(f"checking {printable(source.path)}", done, source.size)
     return True
 
 
@@ -107,7 +107,9 @@ def write_converted(
             while rest:
                 rest = rest[file.write(rest) :]
             done += len(chunk)
-            reporter.log_progress(f"making {printable(source.path)} UTF-8", done, source.size)
+            reporter.log_progress(
+                f"converting {printable(source.path)} to UTF-8", done, source.size
+            )
 
 
 def make_utf_8(

@@ -22,6 +22,7 @@ HALF_WIDTH = re.compile("[\uff61-\uff9f]")
 ENOUGH = 100
 # The nearest encoding has to leave out this many times fewer lines than the next one.
 MARGIN = 4
+AMBIGUOUS = "the encoding is ambiguous, choose one with --encoding"
 
 # A line, and its place in its chunk, counted from 0.
 NumberedLine = Tuple[int, bytes]
@@ -82,9 +83,10 @@ class Candidate:
     def summary(self) -> str:
         """Returns how the sources fit, for a message."""
         if self.first is None:
-            return f"{self.encoding.name} {'fits' if self.is_likely() else 'makes half-width kana'}"
+            verdict = "fits" if self.is_likely() else "would give half-width kana"
+            return f"{self.encoding.name} {verdict}"
         path, line = self.first
-        return f"{self.encoding.name} fails first at {printable(path)}:{line}"
+        return f"{self.encoding.name} first fails at {printable(path)}:{line}"
 
 
 class Detection:
@@ -166,9 +168,9 @@ class Detection:
             if count * 2 >= self.lines[path]:
                 raise Error(
                     INVALID,
-                    f"{printable(path)}: {count} of {self.lines[path]} lines with more than ASCII "
-                    f"are not {chosen.encoding.name}: "
-                    f"all files have to be in one encoding, which --encoding names: {CHOICES}",
+                    f"{printable(path)}: {count} of {self.lines[path]} non-ASCII lines "
+                    f"are not {chosen.encoding.name}: all files must have the same encoding, "
+                    f"which --encoding can set to {CHOICES}",
                 )
 
     def choose(self, in_dicrc: Optional[Encoding], folder: bytes) -> Candidate:
@@ -177,8 +179,8 @@ class Detection:
             path, line = self.escape
             raise Error(
                 INVALID,
-                f"{printable(path)}:{line} has an escape sequence, as ISO-2022-JP has: "
-                "give --encoding iso-2022-jp, or another one",
+                f"{printable(path)}:{line} has an escape sequence of ISO-2022-JP: "
+                "use --encoding iso-2022-jp, or the encoding that the file has",
             )
         if not self.lines:
             return self.candidates[0]
@@ -187,7 +189,7 @@ class Detection:
         chosen = self.decide(in_dicrc)
         if chosen is None:
             summaries = "; ".join(one.summary() for one in self.candidates)
-            raise Error(INVALID, f"{printable(folder)}: --encoding has to choose: {summaries}")
+            raise Error(INVALID, f"{printable(folder)}: {AMBIGUOUS}: {summaries}")
         return chosen
 
 
@@ -210,7 +212,7 @@ def find_encoding(
     for source in sources:
         for count in detection.examine(source):
             done += count
-            reporter.log_progress("looking for the encoding", done, size)
+            reporter.log_progress("detecting the encoding", done, size)
     chosen = detection.candidates[0] if given else detection.choose(in_dicrc, folder)
     detection.check_files(chosen)
     return chosen.encoding

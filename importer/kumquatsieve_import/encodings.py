@@ -22,7 +22,7 @@ NEC_LEAD = 0xAD
 
 
 def nec_character(error: UnicodeError) -> Tuple[str, int]:
-    """Decodes a character of NEC's row 13, such as CIRCLED DIGIT ONE, and returns where it ends.
+    """Decodes a character of NEC's row 13, such as CIRCLED DIGIT ONE, and returns its end.
 
     Vendors' EUC-JP has these characters, JIS X 0208 does not, and CP932 has them elsewhere.
     """

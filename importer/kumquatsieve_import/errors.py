@@ -34,7 +34,7 @@ def escaped(character: str) -> str:
 def as_bytes(path: Path) -> bytes:
     """Returns the bytes of a path or an argument.
 
-    In a string, a surrogate stands for each byte that is not UTF-8.
+    In a string, a surrogate represents each byte that is not UTF-8.
     """
     return path if isinstance(path, bytes) else path.encode("utf-8", "surrogateescape")
 

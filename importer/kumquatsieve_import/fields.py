@@ -161,17 +161,17 @@ def find_names(
     with errors_of(dicrc), open(dicrc, encoding="utf-8") as file:
         candidates = candidates_for(file.read())
     if not candidates:
-        return not_named("dicrc is that of no dictionary whose fields are known")
+        return not_named("dicrc belongs to no dictionary whose field names are known")
     places = field_counts(lexicons, reporter)
     if len(places) != 1:
         counts = ", and ".join(f"{place} has {count}" for count, place in places.items())
-        return not_named(counts or "there is no entry")
+        return not_named(counts or "there are no entries")
     (count,) = places
     for one in candidates:
         if len(one.names) == count:
             return FieldNames(one.names, f"{count}, with the names {one.origin}")
     expected = " or ".join(str(len(one.names)) for one in candidates)
-    return not_named(f"each entry has {count}, and dicrc is that of a dictionary with {expected}")
+    return not_named(f"each entry has {count}, but dicrc belongs to a dictionary with {expected}")
 
 
 def write_names(names: Sequence[str], target: bytes) -> None:

@@ -4,11 +4,14 @@ An image that is named by its dictionary alone is installed to the system's dire
 written, and else to the user's own.
 """
 import os
-from typing import NamedTuple, Optional
+from typing import List, NamedTuple, Optional
 
 from .errors import printable
 
 FOLDER = b"kumquatsieve"
+ENDING = b".img"
+# How many names of images an error lists at most.
+NAMES_MAX = 20
 
 
 class ImageDir(NamedTuple):
@@ -41,8 +44,8 @@ def image_dir_for(prefix: bytes) -> ImageDir:
     """Returns the directory of the images that a program of this prefix makes."""
     system, user = system_dir(prefix), user_dir()
     if user is None or may_write(system):
-        return ImageDir(system, "home: the system's, for all users")
-    message = f"home: this user's own, since {printable(system)} can't be written"
+        return ImageDir(system, "image directory: the system's, for all users")
+    message = f"image directory: this user's own, because {printable(system)} is not writable"
     return ImageDir(user, message)
 
 
@@ -53,11 +56,37 @@ def find_image(name: bytes, prefix: bytes) -> Optional[bytes]:
     """
     if b"/" in name or is_file(name):
         return name if os.path.lexists(name) else None
-    for folder in (user_dir(), system_dir(prefix), os.path.join(prefix, b"share", FOLDER)):
-        path = os.path.join(folder, name + b".img") if folder is not None else None
-        if path is not None and os.path.isfile(path):
+    for folder in image_dirs(prefix):
+        path = os.path.join(folder, name + ENDING)
+        if os.path.isfile(path):
             return path
     return None
+
+
+def image_dirs(prefix: bytes) -> List[bytes]:
+    """Returns the image directories in the order in which they are searched."""
+    own = user_dir()
+    shared = [system_dir(prefix), os.path.join(prefix, b"share", FOLDER)]
+    return shared if own is None else [own, *shared]
+
+
+def search_hint(prefix: bytes) -> str:
+    """Returns the directories that are searched for an image, and the names of the images there."""
+    folders = image_dirs(prefix)
+    names = sorted({name for folder in folders for name in image_names(folder)})
+    listed = ", ".join(map(printable, names[:NAMES_MAX])) or "none"
+    more = f" and {len(names) - NAMES_MAX} more" if len(names) > NAMES_MAX else ""
+    return f"searched {', '.join(map(printable, folders))}; available images: {listed}{more}"
+
+
+def image_names(folder: bytes) -> List[bytes]:
+    """Returns the names of the images in a directory; none if it can't be read."""
+    try:
+        files = os.listdir(folder)
+    except OSError:
+        return []
+    images = [file for file in files if file.endswith(ENDING) and file != ENDING]
+    return [file[: -len(ENDING)] for file in images if os.path.isfile(os.path.join(folder, file))]
 
 
 def is_file(path: bytes) -> bool:

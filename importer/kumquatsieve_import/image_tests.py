@@ -8,7 +8,7 @@ from typing import Callable, NamedTuple, Optional, Sequence, Tuple
 
 from .compilation import lines_of, program_beside, status_of
 from .errors import FILE, INVALID, Error, errors_of, printable
-from .image_dirs import find_image
+from .image_dirs import find_image, search_hint
 from .installing import Destination, record_of
 from .locking import locked
 from .progress import Reporter
@@ -25,12 +25,12 @@ USER_DICTIONARY = re.compile(r"jseg: .*: O1 NotSystem")
 OTHERS_WRITE = stat.S_IWGRP | stat.S_IWOTH
 # Errors because of which this user can't have a record there. They don't fail an import.
 EXPECTED = (errno.EACCES, errno.EPERM, errno.EROFS, errno.ENAMETOOLONG)
-# The nanoseconds for which the clock is waited for, if it is behind the image's times.
+# The longest wait in nanoseconds until the clock has passed the image's times.
 PATIENCE = 5 * SECOND
 # Seconds after which the system's clock for the times of files has a new value.
 PAUSE = 0.02
 CHUNK = 1 << 20
-CHANGED = "it was changed or replaced during the tests"
+CHANGED = "changed or replaced during the tests"
 
 
 class Unrecorded(NamedTuple):
@@ -68,17 +68,17 @@ class Image:
         The file and its directory may be written by their owner only.
         """
         if os.path.islink(self.path):
-            return f"it is a link to {printable(os.readlink(self.path))}"
+            return f"is a link to {printable(os.readlink(self.path))}"
         if not stat.S_ISREG(self.before.st_mode):
-            return "it is no regular file"
+            return "is not a regular file"
         if self.before.st_mode & OTHERS_WRITE:
-            return "its group or all users may write it (chmod go-w)"
+            return "its group or all users can write to it (chmod go-w)"
         head = os.pread(self.file, 12, 0)
         layout = int.from_bytes(head[8:], "little")
         if head.startswith(MAGIC) and layout in OLD_LAYOUTS:
             return f"its layout {layout} has no checksum"
         if self.folder.open().st_mode & OTHERS_WRITE:
-            return "its group or all users may write in its folder (chmod go-w)"
+            return "its group or all users can write to its directory (chmod go-w)"
         return None
 
     def wait_for_clock(self) -> Optional[str]:
@@ -94,7 +94,7 @@ class Image:
             if now >= needed:
                 return None
             if needed - now > PATIENCE:
-                return "its time of change lies in the future"
+                return "its change time is in the future"
             self.tools.reporter.tick()
 
     def unrecordable(self) -> Optional[str]:
@@ -235,12 +235,21 @@ def test_new(
         reporter.report(f"not tested: {named}: out of memory")
 
 
+def check_found(path: bytes, prefix: bytes) -> None:
+    """Rejects a bare name that no image has. The error lists where it was searched for."""
+    if b"/" not in path and not os.path.lexists(path):
+        missing = f"{printable(path)}: {os.strerror(errno.ENOENT)}"
+        raise Error(FILE, f"{missing}; {search_hint(prefix)}")
+
+
 def test_all(names: Sequence[bytes], own: bytes, resources: Resources, reporter: Reporter) -> int:
     """Tests images, each by its path or its bare name. Returns the status of the first error."""
     tools, status = Tools(program_beside(own, b"jseg"), resources, reporter), 0
+    prefix = os.path.dirname(own)
     for name in names:
-        path = find_image(name, os.path.dirname(own)) or name
+        path = find_image(name, prefix) or name
         try:
+            check_found(path, prefix)
             why = test_image(path, tools)
             status = status or (why.status if why else 0)
         except Error as error:

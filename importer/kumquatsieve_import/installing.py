@@ -69,9 +69,9 @@ class Destination:
     def check_file(self) -> None:
         """Rejects a directory, and a path that only a directory can have."""
         if os.path.isdir(self.image):
-            raise Error(FILE, f"{printable(self.named)}: it is a folder")
+            raise Error(FILE, f"{printable(self.named)}: is a directory")
         if os.path.basename(self.named) in (b"", b".", b".."):
-            raise Error(FILE, f"{printable(self.named)} is no file name")
+            raise Error(FILE, f"{printable(self.named)} is not a file name")
 
     def check_beside_sources(self, folder: Folder, settings: Sequence[bytes]) -> None:
         """Rejects a path of the image or of its settings that is a directory or a source.
@@ -84,10 +84,10 @@ class Destination:
             targets += filter(None, map(self.beside, settings))
         for target in targets:
             if os.path.isdir(target):
-                raise Error(FILE, f"{printable(target)}: it is a folder")
+                raise Error(FILE, f"{printable(target)}: is a directory")
             for path in (os.path.join(folder.path, name) for name in folder.all_names()):
                 if is_same(path, target):
-                    message = f"is a file of the folder that is read: {printable(path)}"
+                    message = f"would overwrite a source file: {printable(path)}"
                     raise Error(USAGE, f"{printable(target)} {message}")
 
     def check_beside_files(self, paths: Sequence[bytes]) -> None:
@@ -95,10 +95,10 @@ class Destination:
         self.check_file()
         record = self.beside(TESTED)
         if record and os.path.isdir(record):
-            raise Error(FILE, f"{printable(record)}: it is a folder")
+            raise Error(FILE, f"{printable(record)}: is a directory")
         for path in paths:
             if is_same(path, self.named):
-                message = f"is a file that is read: {printable(path)}"
+                message = f"would overwrite an input file: {printable(path)}"
                 raise Error(USAGE, f"{printable(self.named)} {message}")
 
     def install(

@@ -54,5 +54,5 @@ def wait_for_lock(descriptor: int, folder: bytes, reporter: Reporter) -> None:
 
 
 def log_missing(folder: bytes, error: OSError, reporter: Reporter) -> None:
-    message = f"no lock against other imports at the same time: {reason_of(error)}"
+    message = f"no lock against concurrent imports: {reason_of(error)}"
     reporter.log(f"{printable(folder)}: {message}")

@@ -24,7 +24,7 @@ Settings = Dict[bytes, Optional[bytes]]
 
 
 class Import:
-    """One import of a directory: what it reads, and where its image goes.
+    """One import of a directory: its inputs, and the path of its image.
 
     `own` is the directory of this program.
     """
@@ -128,7 +128,7 @@ class Import:
     def is_kept(self, name: bytes) -> bool:
         """Returns whether a file of this name can be kept beside the image, and reports if not."""
         if self.destination.beside(name) is None:
-            why = "whose name beside the image would be too long"
+            why = "because its name beside the image would be too long"
             self.reporter.report(f"not kept: {printable(name)}, {why}")
             return False
         return True
@@ -181,8 +181,8 @@ def run_command(arguments: List[str], own: bytes, resources: Resources, reporter
     if missing:
         raise Error(
             FILE,
-            f"this Python has no converter of {missing}: "
-            "it lacks a part of its library (Debian: apt install python3)",
+            f"this Python cannot convert {missing}: "
+            "a part of its library is missing (Debian: apt install python3)",
         )
     if choices.lexicons:
         UserImport(choices, own, resources, reporter).run()

@@ -59,7 +59,7 @@ def temporary_folder() -> bytes:
     try:
         return os.fsencode(tempfile.gettempdir())
     except FileNotFoundError as error:
-        message = "no folder for temporary files can be written: TMPDIR names one"
+        message = "no directory for temporary files is writable; set TMPDIR to one"
         raise Error(FILE, message) from error
 
 
@@ -90,8 +90,8 @@ class Resources:
         return self.folders[-1]
 
     def make_parents(self, folder: bytes) -> None:
-        """Makes a directory that all may read, and its parents. Those that stay empty are removed
-        at the end."""
+        """Creates a directory that all may read, and its parents. Directories that stay empty are
+        removed at the end."""
         missing = []
         while not os.path.isdir(folder):
             missing.append(folder)

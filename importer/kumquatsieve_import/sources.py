@@ -82,31 +82,31 @@ def source_at(folder: bytes, name: bytes) -> Source:
     with errors_of(path):
         if os.path.islink(path) and not os.path.exists(path):
             target = printable(os.readlink(path))
-            message = f"{printable(path)}: it is a link to {target}, which is not there"
+            message = f"{printable(path)}: is a link to {target}, which does not exist"
             raise Error(FILE, message)
         status = os.stat(path)
     if not stat.S_ISREG(status.st_mode):
         is_folder = stat.S_ISDIR(status.st_mode)
-        kind = "a folder" if is_folder else "no file, but a pipe or a device"
-        raise Error(FILE, f"{printable(path)}: it is {kind}")
+        kind = "a directory" if is_folder else "a pipe or a device, not a file"
+        raise Error(FILE, f"{printable(path)}: is {kind}")
     if not os.access(path, os.R_OK):
-        raise Error(FILE, f"{printable(path)}: permission to read it is missing")
+        raise Error(FILE, f"{printable(path)}: permission denied")
     return Source(path, name, status.st_size)
 
 
 def read_folder(path: bytes) -> Folder:
     """Lists a directory of sources. Hidden files count, as for `jseg --sources`."""
     if not os.path.isdir(path):
-        raise Error(FILE, f"{printable(path)} is no folder")
+        raise Error(FILE, f"{printable(path)} is not a directory")
     with errors_of(path):
         names = sorted(os.listdir(path))
     for name in DEFINITIONS:
         if name not in names:
             missing = f"{printable(path)} has no {name.decode()}"
-            raise Error(FILE, f"{missing}, so it is no folder of sources")
+            raise Error(FILE, f"{missing}, so it is not a directory of sources")
     lexicons = [name for name in names if name.endswith(b".csv")]
     if not lexicons:
-        raise Error(FILE, f"{printable(path)} has no file that ends with .csv")
+        raise Error(FILE, f"{printable(path)} has no .csv file")
     settings = [name for name in names if name in SETTINGS]
     definitions, others = list(DEFINITIONS), {*names} - {*DEFINITIONS, *lexicons, *settings}
     kinds = [[source_at(path, name) for name in kind] for kind in (definitions, lexicons, settings)]

@@ -35,7 +35,7 @@ def reject_line(path: bytes, line: int, why: str) -> NoReturn:
 
 
 class UserImport:
-    """One import of lexicons: what it reads, and where its image goes.
+    """One import of lexicons: its inputs, and the path of its image.
 
     `own` is the directory of this program.
     """

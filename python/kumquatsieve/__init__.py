@@ -1,53 +1,37 @@
 """Segments Japanese text into words, with the proved library of Kumquatsieve.
 
-    from kumquatsieve import Cutter
+    from kumquatsieve import Segmenter
 
-    cutter = Cutter("ipadic")
-    for word in cutter.cut("すもももももももものうち"):
-        print(word.surface, word.feature)
+    for word in Segmenter("ipadic")("すもももももももものうち"):
+        print(word.surface, word.pos, word.base_form)
 
 docs/PYTHON.md describes each class and call.
 """
-from __future__ import annotations
+import sys
 
-from ._cutter import Cutter
-from ._fault import Fault
-from ._images import dictionaries
-from ._words import Word, Words
+if not getattr(sys, "_is_gil_enabled", lambda: True)():
+    needs = "this Python runs threads without its lock (GIL), which kumquatsieve needs"
+    raise ImportError(f"{needs}; PYTHON_GIL=1 turns it on")
 
-TYPE_CHECKING = False
-if TYPE_CHECKING:
-    from ._formats import Format
-    from ._lattice import Lattice, Node, Rival
-    from ._lines import Lines
+from ._core import Node, Word  # noqa: E402 (after the test for what it needs)
+from ._errors import KumquatsieveError  # noqa: E402
+from ._segmenter import Dictionary, Lines, Segmenter, dictionaries  # noqa: E402
+from ._words import Words  # noqa: E402
 
-__all__ = [
-    "Cutter",
-    "Fault",
-    "Format",
-    "Lattice",
-    "Lines",
-    "Node",
-    "Rival",
-    "Word",
-    "Words",
-    "dictionaries",
-]
 __version__ = "0.1.0"
+NOW = [Dictionary, KumquatsieveError, Lines, Node, Segmenter, Word, Words, dictionaries]
+# Most programs don't name these, and `collections` takes longer to import than the rest.
+LATER = ["Format", "ImageInfo", "Lattice", "Rival"]
+__all__ = sorted([*(one.__name__ for one in NOW), *LATER])
 
-if not TYPE_CHECKING:
 
-    def __getattr__(name: str) -> object:
-        """Imports the classes that most programs don't name, because `typing` takes longer to
-        import than the rest of this module."""
-        if name not in __all__:
-            raise AttributeError(f"module {__name__!r} has no attribute {name!r}")
-        from . import _formats, _lattice, _lines
+def __getattr__(name):
+    if name not in LATER:
+        raise AttributeError(f"module {__name__!r} has no attribute {name!r}")
+    from . import _lattice
 
-        for module in (_formats, _lattice, _lines):
-            if hasattr(module, name):
-                globals()[name] = getattr(module, name)
-        return globals()[name]
+    return getattr(_lattice, name)
 
-    def __dir__() -> list[str]:
-        return sorted({*globals(), *__all__})
+
+def __dir__():
+    return sorted({*globals(), *__all__})

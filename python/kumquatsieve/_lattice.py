@@ -1,249 +1,150 @@
-"""The lattice of a line: each word that some path from its start reaches."""
-from bisect import bisect_left
-from itertools import count
-from operator import itemgetter
-from typing import Any, Dict, Iterator, List, NamedTuple, Optional, TYPE_CHECKING, Tuple
+"""The lattice of a line: each word that some path from its start reaches, and its drawings."""
+import os
+from collections import namedtuple
+from heapq import heappop, heappush
+from html import escape
 
-from ._buffers import NODE_FIELDS
-from ._dot import dot_of
-from ._shown import html_of, table_of
-from ._words import Line, Word, Words, of_record
+from ._words import Words, shown, table_of
 
-if TYPE_CHECKING:
-    from ._handle import LineRecords
-
-# The program that draws, and how many seconds it may take. A lattice that takes longer is shown as
-# a table.
-DOT = "dot"
-DRAWING = 10
+Format = namedtuple("Format", "node unk bos eos", defaults=(None, None, "", "EOS\\n"))
+Format.__doc__ = """A format: MeCab's items for a known word, for an unknown word (`node` if it is
+None), before the first word, and after the last one. None is MeCab's default."""
+Rival = namedtuple("Rival", "word node lost")
+Rival.__doc__ = """A word of the best path, and its rival: the node that lost by least, of those
+that cover the start of the word and have other boundaries. They are None if there is no rival."""
+NUMBERS = "entries unknown_entries surfaces left_ids right_ids"
+ImageInfo = namedtuple("ImageInfo", f"path size sha256 layout is_user {NUMBERS} categories fields")
 
 HEAD = ["surface", "feature", "best", "cost", "total", "through", "lost"]
-
-
-class NodesLine(Line):
-    """What the nodes of a line share, with the cost of its best path."""
-
-    __slots__ = ("total", "_characters")
-
-    fields = NODE_FIELDS
-
-    def __init__(self, text: bytes, records: bytes, names: Dict[str, int], total: int) -> None:
-        super().__init__(text, records, names)
-        self.total = total
-        self._characters: Dict[int, int] = {}
-
-    def place(self, number: int) -> Tuple[int, int]:
-        """Returns the start and end of a node in characters, which are looked up by bytes."""
-        if not self._characters:
-            self._characters = dict(self._numbered())
-        _, start, end, *_ = self.record(number)
-        return self._characters[start], self._characters[end]
-
-    def _numbered(self) -> Iterator[Tuple[int, int]]:
-        """Yields the byte offset of each character with its number, and those of the line's end."""
-        at = 0
-        text = self.text.decode()
-        for number, sign in enumerate(text):
-            yield at, number
-            at += len(sign.encode())
-        yield at, len(text)
-
-
-class Node(Word):
-    """A word of a lattice, with the attributes of a `Word` and the costs of its paths."""
-
-    __slots__ = ()
-
-    _line: NodesLine
-
-    byte_place = of_record(0, "The start of the blanks before it in the line, in bytes of UTF-8.")
-    total = of_record(
-        10, "Its forward cost: the least cost of the paths from the line's start up to and with it."
-    )
-
-    @property
-    def through(self) -> Optional[int]:
-        """The least cost of the paths of the whole line that have it. None if no path has it."""
-        cost, reaches_end = self._line.record(self._number)[12:14]
-        return cost if reaches_end else None
-
-    @property
-    def lost(self) -> Optional[int]:
-        """How much more than the best path the best path with it costs. None if no path has it."""
-        through = self.through
-        return None if through is None else through - self._line.total
-
-    @property
-    def best(self) -> bool:
-        """Whether it is on the best path."""
-        return bool(self._line.record(self._number)[14])
-
-    def __repr__(self) -> str:
-        lost = (
-            "no path has it"
-            if self.lost is None
-            else "best"
-            if self.best
-            else f"lost by {self.lost}"
-        )
-        return f"<Node {self._summary()} {lost}>"
-
-
-class Rival(NamedTuple):
-    """A word of the best path, and its rival.
-
-    The rival is the node that lost by least, of those that cover the start of the word and have
-    other boundaries. `lost` is what it lost by. If there is none, both are None.
-    """
-
-    word: Node
-    node: Optional[Node]
-    lost: Optional[int]
+EXPLAINED = ["path", "start", "surface", "feature", "connection", "cost", "total", "lost"]
+# What drawings have for characters. Graphviz reads escapes and the entities of HTML.
+UNSHOWN = (*range(0x20), *range(0x7F, 0xA0), *range(0xD800, 0xE000), 0xFFFE, 0xFFFF)
+CODES = {number: f"\\u{{{number:x}}}" for number in UNSHOWN}
+ESCAPES = {number: "\\" + code for number, code in CODES.items()}
+ESCAPES |= str.maketrans({'"': '\\"', "\\": "\\\\", "&": "&amp;"})
+# Points of a character, of a row, of a box's height, before and after a box, and above the rows.
+COLUMN, ROW, HEIGHT, GAP, TOP = 64, 68, 52, 13, 24
+STYLE = "text{font:9px sans-serif;text-anchor:middle;fill:currentColor}rect+text{font-size:12px}"
+STYLE += "rect,line{fill:none;stroke:currentColor}.best{stroke:#d00;stroke-width:2}"
+# Where the connection costs of an image start, and the bytes of its SHA-256. (docs/FORMAT.md)
+COSTS, SHA256 = 104, 32
 
 
 class Lattice:
-    """The lattice of a line.
+    """The lattice of a line. `nodes` are sorted by position, and those of a position in the order
+    that decides ties. A notebook shows a drawing of those that lost by little."""
 
-    `nodes` are sorted by position, and those of a position in the order that decides ties. `total`
-    is the cost of the best path. A notebook shows a drawing if Graphviz's `dot` is installed, or
-    else a table.
-    """
-
-    __slots__ = ("nodes", "total", "_text", "_svg")
-
-    def __init__(self, nodes: List[Node], total: int, text: str) -> None:
-        self.nodes, self.total, self._text = nodes, total, text
+    def __init__(self, nodes, total, text, dictionary=None):
+        self.nodes, self.total, self.text, self.dictionary = nodes, total, text, dictionary
 
     @property
-    def best(self) -> Words:
+    def best(self):
         """The nodes of the best path, which are the words of the line."""
         words = Words(node for node in self.nodes if node.best)
         words.total = self.total
         return words
 
-    def rivals(self) -> List[Rival]:
-        """Returns for each word of the best path the node of the best path without its boundaries.
-
-        The nodes are sorted once, so n nodes take O(n log n).
-        """
-        rivals = [Rival(node, None, None) for node in self.nodes if node.best]
-        places = [rival.word.byte_place for rival in rivals]
-        boundaries = {(rival.word.byte_place, rival.word.byte_end) for rival in rivals}
-        free = Free(len(rivals))
-        for lost, node in by_lost(self.nodes):
-            begin, end = node.byte_place, node.byte_end
-            if (begin, end) not in boundaries:
-                for number in free.taken(bisect_left(places, begin), bisect_left(places, end)):
-                    rivals[number] = Rival(rivals[number].word, node, lost)
+    def rivals(self):
+        """Returns for each word of the best path the node of the best path without its boundaries,
+        which is the one that lost by least of those that cover the start of the word."""
+        words, heap, rivals = [node for node in self.nodes if node.best], [], []
+        boundaries = {(word.byte_place, word.byte_end) for word in words}
+        rest = [(node.byte_place, node.byte_end, node.lost, node) for node in self.nodes[::-1]]
+        for word in words:
+            while rest and rest[-1][0] <= word.byte_place:
+                place, end, lost, node = rest.pop()
+                if lost is not None and (place, end) not in boundaries:
+                    # The first one of nodes that lost by as much precedes the others.
+                    heappush(heap, (lost, -len(rest), end, node))
+            while heap and heap[0][2] <= word.byte_place:
+                heappop(heap)
+            lost, _, _, node = heap[0] if heap else [None] * 4
+            rivals.append(Rival(word, node, lost))
         return rivals
 
-    def to_dot(self, within: Optional[int] = None) -> str:
-        """Returns the lattice as a graph for Graphviz, as `jseg --lattice dot` prints it.
+    def explain(self):
+        """Returns a table of the words of the best path, each with its rival."""
+        table, before = [EXPLAINED], 0
+        for word, rival, lost in self.rivals():
+            rows = [("best", word, word.total - before - word.cost, ""), ("rival", rival, "", lost)]
+            for path, n, cost, lost in rows if rival else rows[:1]:
+                table.append([path, n.start, n.surface, n.feature, cost, n.cost, n.total, lost])
+            before = word.total
+        end = ["best", len(self.text), "EOS", "", self.total - before, 0, self.total, ""]
+        return shown([*table, end], 4) + "\n"
 
-        It has the positions from left to right, and between two positions the words there, with the
-        first field of their feature, their costs and what they lost by. The best path is red. With
-        `within` it has only nodes that lost by at most so much.
-        """
-        return dot_of(
-            self._text,
-            [(number, node) for number, node in enumerate(self.nodes) if is_near(node, within)],
-        )
+    def to_dot(self, within=None):
+        """Returns a graph for Graphviz of the nodes that lost by at most `within`, as `jseg
+        --lattice dot` prints it: positions in bytes, and words between two of them."""
+        label = self.text.translate(ESCAPES)
+        dot = f'digraph {{\n  rankdir=LR;\n  label="{label}";\n  node [shape=circle];\n'
+        for number, node in enumerate(self.nodes):
+            if self._is_near(node, within):
+                red = ", color=red, penwidth=2" if node.best else ""
+                lost = "no path" if node.lost is None else f"lost {node.lost}"
+                texts = (text.translate(ESCAPES) for text in (node.surface, node.fields[0]))
+                label = "\\n".join([*texts, f"cost {node.cost}", f"total {node.total}", lost])
+                dot += f'  w{number} [shape=box{red}, label="{label}"];\n'
+                edge = f" [{red[2:]}]" if red else ""
+                dot += f"  {node.byte_place} -> w{number} -> {node.byte_end}{edge};\n"
+        return dot + "}\n"
 
-    def _columns(self) -> Tuple[List[str], List[List[str]]]:
-        return HEAD, [[cell_of(getattr(node, name)) for name in HEAD] for node in self.nodes]
+    def to_svg(self, within=3000, most=60):
+        """Returns a drawing of the nodes that lost by at most `within`, and of at most `most`."""
 
-    def __repr__(self) -> str:
-        return table_of(*self._columns(), numbers=4)
+        def text(x, y, label):
+            return f"<text x='{x:g}' y='{y:g}'>{escape(str(label).translate(CODES))}</text>"
 
-    def _repr_svg_(self) -> Optional[str]:
+        near = (n for n in self.nodes if n.lost is not None and self._is_near(n, within))
+        near = sorted(near, key=lambda node: node.lost)[:most]
+        nodes = [node for node in self.nodes if node.best or node in near]
+        rows, ends = {}, [0]
+        for node in nodes:
+            # The best path has row 0. Another node has the first row in which it overlaps none.
+            free = [row for row in range(1, len(ends)) if ends[row] <= node.place]
+            rows[node] = 0 if node.best else [*free, len(ends)][0]
+            ends[rows[node] : rows[node] + 1] = [node.end]
+        svg = [text(COLUMN * at, 10, at) for at in range(1, len(self.text))]
+        pairs = [(a, b) for a in nodes for b in nodes if a.byte_end == b.byte_place]
+        for (one, other), cost in zip(pairs, self._connection_costs(pairs)):
+            left, right = COLUMN * one.end - GAP, COLUMN * other.start + GAP
+            up, down = (TOP + ROW * rows[node] + HEIGHT // 2 for node in (one, other))
+            best = " class='best'" if one.best and other.best else ""
+            svg.append(f"<line{best} x1='{left}' y1='{up}' x2='{right}' y2='{down}'/>")
+            svg.append(text((left + right) / 2, (up + down) / 2 - 3, cost))
+        for node in nodes:
+            left, right, top = COLUMN * node.start, COLUMN * node.end, TOP + ROW * rows[node]
+            best, lost = (" class='best'", []) if node.best else ("", [f"+{node.lost}"])
+            box = f"x='{left + GAP}' y='{top}' width='{right - left - 2 * GAP}' height='{HEIGHT}'"
+            title = escape(repr(node).translate(CODES))
+            svg.append(f"<g><title>{title}</title><rect{best} {box} rx='4'/>")
+            for row, label in enumerate([node.surface, node.fields[0], node.cost, *lost]):
+                svg.append(text((left + right) / 2, top + 14 + 11 * row, label))
+            svg.append("</g>")
+        width, height = COLUMN * max(len(self.text), 1), TOP + ROW * len(ends)
+        size = f'width="{width}" height="{height}" viewBox="0 0 {width} {height}"'
+        head = f'<svg xmlns="http://www.w3.org/2000/svg" {size}><style>{STYLE}</style>'
+        return "".join([head, *svg, "</svg>"])
+
+    _repr_svg_ = to_svg
+
+    def __repr__(self):
+        return shown(table_of(self.nodes, HEAD), 4)
+
+    def _is_near(self, node, within):
+        return within is None or node.lost is not None and node.lost <= within
+
+    def _connection_costs(self, pairs):
+        """Returns the connection costs of nodes: those in the file of the image, if it is still the
+        one that was opened, else on the best path what their totals differ by."""
+        costs = [b.total - a.total - b.cost if a.best and b.best else "" for a, b in pairs]
+        system = self.dictionary and self.dictionary.images[0]
         try:
-            return self._svg
-        except AttributeError:
-            self._svg: Optional[str] = drawn(self.to_dot())
-            return self._svg
-
-    def _repr_html_(self) -> Optional[str]:
-        """Returns None if there is a drawing, because a notebook would prefer the table."""
-        return html_of(*self._columns()) if self._repr_svg_() is None else None
-
-
-def is_near(node: Node, within: Optional[int]) -> bool:
-    """Returns whether a node lost by at most `within`. None is no limit."""
-    return within is None or (node.lost is not None and node.lost <= within)
-
-
-def by_lost(nodes: List[Node]) -> List[Tuple[int, Node]]:
-    """Returns the nodes that some path has, each with what it lost by, sorted by that.
-
-    Nodes that lost by as much keep their order.
-    """
-    each = ((node.lost, node) for node in nodes)
-    return sorted(((lost, node) for lost, node in each if lost is not None), key=itemgetter(0))
-
-
-class Free:
-    """The words of the best path that have no rival yet, by their numbers.
-
-    A node replaces each word whose start it covers, unless it has the boundaries of that word. A
-    word starts with the blanks before it, so each word ends at the start of the next one. A node
-    with the boundaries of a word covers the start of no other word. Any other node replaces a run
-    of words. The nodes come in the order of what they lost by, so a node is the rival of those
-    words of its run that are still free. Words that are not free are skipped by union-find.
-    """
-
-    def __init__(self, count: int) -> None:
-        self._next = list(range(count + 1))
-
-    def taken(self, first: int, end: int) -> Iterator[int]:
-        """Yields the free words from `first` up to `end`. They are not free any more."""
-        number = self._from(first)
-        while number < end:
-            yield number
-            self._next[number] = number + 1
-            number = self._from(number)
-
-    def _from(self, number: int) -> int:
-        """Returns the first free word from this one on, or the count of words."""
-        following = self._next
-        while following[number] != number:
-            following[number] = number = following[following[number]]
-        return number
-
-
-def cell_of(value: Any) -> str:
-    """Returns the text of a value in a table."""
-    return "" if value is None or value is False else "*" if value is True else str(value)
-
-
-def drawn(graph: str) -> Optional[str]:
-    """Draws a graph by Graphviz, and returns the SVG element.
-
-    It is None if `dot` is missing, fails or takes too long.
-    """
-    # Most programs draw nothing, and the import of these takes as long as a load.
-    import shutil
-    import subprocess
-
-    try:
-        done = subprocess.run(
-            [shutil.which(DOT) or "", "-Tsvg"],
-            input=graph.encode(),
-            capture_output=True,
-            timeout=DRAWING,
-        )
-    except (OSError, subprocess.TimeoutExpired):
-        return None
-    svg = done.stdout.decode("utf-8", "replace")
-    return svg[svg.index("<svg") :] if done.returncode == 0 and "<svg" in svg else None
-
-
-def lattice_of(text: bytes, found: "LineRecords", names: Dict[str, int]) -> Lattice:
-    """Returns the lattice of a line from the total cost, records and texts of its nodes."""
-    total, records, texts = found
-    line, each = NodesLine(text, records, names, total), iter(texts)
-    nodes: List[Node] = []
-    for surface, feature, number in zip(each, each, count()):
-        node = Node()
-        node.surface, node.feature, node._line, node._number = surface, feature, line, number
-        nodes.append(node)
-    return Lattice(nodes, total, text.decode())
+            with open(system and system.path or "", "rb") as file:
+                file.seek(-SHA256, os.SEEK_END)
+                for at, (one, other) in enumerate(pairs if file.read() == system.sha256 else ()):
+                    file.seek(COSTS + 2 * (one.right_id * system.left_ids + other.left_id))
+                    costs[at] = int.from_bytes(file.read(2), "little", signed=True)
+        except OSError:
+            pass
+        return costs

@@ -1,6 +1,6 @@
 """Segments a file of many lines on the workers of dask.distributed, and writes what `jseg` prints.
 
-    python3 cut.py IMAGE [--scheduler ADDRESS | --workers N] [--format wakati] [--part BYTES] \\
+    python3 segment.py IMAGE [--scheduler ADDRESS | --workers N] [--format wakati] [--part BYTES] \\
         TEXT WORDS
 
 Each worker reads its parts of TEXT by itself, so the file must have this path on each of their
@@ -13,7 +13,7 @@ from collections import deque
 from typing import Deque, Iterator, List, Optional, TextIO, Tuple
 
 from distributed import Client, Future
-from kumquatsieve import Cutter, Fault
+from kumquatsieve import KumquatsieveError, Segmenter
 
 
 # A part of a file, of whole lines: the path, the first byte, and the byte after the last one.
@@ -39,31 +39,31 @@ def parts_of(path: str, size: int) -> Iterator[Part]:
             start = end
 
 
-def segment(cutter: Cutter, part: Part) -> Tuple[str, Optional[Fault]]:
+def segment(segmenter: Segmenter, part: Part) -> Tuple[str, Optional[KumquatsieveError]]:
     """Returns the text of a part's lines up to an error, and the error.
 
-    The Cutter comes pickled, and its worker loads the dictionary once.
+    The Segmenter comes pickled, and its worker loads the dictionary once.
     """
     printed: List[str] = []
     try:
-        for text in cutter.parse_lines(read(part)):
+        for text in segmenter.parse_lines(read(part), errors="strict"):
             printed.append(text)
-    except Fault as fault:
-        return "".join(printed), fault
+    except KumquatsieveError as error:
+        return "".join(printed), error
     return "".join(printed), None
 
 
-def line_of(part: Part, fault: Fault) -> int:
+def line_of(part: Part, error: KumquatsieveError) -> int:
     """Returns the number in the file of the invalid line."""
     path, start, _ = part
     lines = 0
     with open(path, "rb") as file:
         while file.tell() < start:
             lines += file.read(min(start - file.tell(), 1_000_000)).count(b"\n")
-    return lines + (fault.place or 0)
+    return lines + (error.line or 0)
 
 
-def segment_all(client: Client, cutter: Cutter, parts: Iterator[Part], words: str) -> None:
+def segment_all(client: Client, segmenter: Segmenter, parts: Iterator[Part], words: str) -> None:
     """Writes the text of all parts, in order.
 
     No more of them are segmented at once than keep the workers busy.
@@ -74,17 +74,17 @@ def segment_all(client: Client, cutter: Cutter, parts: Iterator[Part], words: st
         for part in parts:
             if len(waiting) >= most:
                 write_first(waiting, out)
-            waiting.append((part, client.submit(segment, cutter, part, pure=False)))
+            waiting.append((part, client.submit(segment, segmenter, part, pure=False)))
         while waiting:
             write_first(waiting, out)
 
 
 def write_first(waiting: Deque[Tuple[Part, Future]], out: TextIO) -> None:
     part, future = waiting.popleft()
-    printed, fault = future.result()
+    printed, error = future.result()
     out.write(printed)
-    if fault is not None:
-        sys.exit(f"{part[0]}: line {line_of(part, fault)}: {fault.code} {fault.name}")
+    if error is not None:
+        sys.exit(f"{part[0]}: line {line_of(part, error)}: {error.message} ({error.code})")
 
 
 def main() -> None:
@@ -104,14 +104,14 @@ def main() -> None:
     options.add_argument("words", metavar="WORDS", help="the file to write")
     arguments = options.parse_args()
     here = {"n_workers": arguments.workers, "threads_per_worker": 1, "dashboard_address": None}
-    cutter = Cutter(arguments.image, format=arguments.format)
+    segmenter = Segmenter(arguments.image, format=arguments.format)
     cluster = {"address": arguments.scheduler} if arguments.scheduler else here
     with Client(**cluster) as client:
-        segment_all(client, cutter, parts_of(arguments.text, arguments.part), arguments.words)
+        segment_all(client, segmenter, parts_of(arguments.text, arguments.part), arguments.words)
 
 
 if __name__ == "__main__":
     try:
         main()
-    except (OSError, Fault) as error:
-        sys.exit(f"cut.py: {error}")
+    except (OSError, KumquatsieveError) as error:
+        sys.exit(f"segment.py: {error}")

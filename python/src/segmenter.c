@@ -1,0 +1,206 @@
+/* Segmenters, which any number of threads may call. Each call has a native segmenter of its own. */
+#include "core.h"
+#include <string.h>
+#include <structmember.h>
+
+/* A native segmenter that had a line of more bytes is closed, since it keeps the memory of its
+   longest line. */
+enum { LONGEST_KEPT = 65536 };
+
+/* Returns a text of the format, which has its UTF-8, or NULL for the default. */
+static const char *format_text(PyObject *format, Py_ssize_t number) {
+    PyObject *text = PyTuple_GetItem(format, number);
+    return text == Py_None ? NULL : PyUnicode_AsUTF8AndSize(text, NULL);
+}
+
+/* Returns the position of an error of a format in characters, or -1 if it is another error. */
+static Py_ssize_t position_in(PyObject *format, const kumquatsieve_error *error) {
+    if (error->code >> 8 != 'P' || error->number > 3) return -1;
+    const char *text = format_text(format, (Py_ssize_t)error->number);
+    if (text == NULL) text = format_text(format, 0);
+    return text ? characters_in(text, error->position) : -1;
+}
+
+static bool open_native(segmenter *self, kumquatsieve_segmenter *native) {
+    kumquatsieve_error error;
+    PyObject *format = self->format;
+    *native = (kumquatsieve_segmenter)KUMQUATSIEVE_EMPTY;
+    if (kumquatsieve_segmenter_open(native, self->dictionary->native, &error) == KUMQUATSIEVE_OK &&
+        kumquatsieve_set_grouping(native, self->grouping, &error) == KUMQUATSIEVE_OK &&
+        kumquatsieve_set_format(native, format_text(format, 0), format_text(format, 1),
+                                format_text(format, 2), format_text(format, 3),
+                                &error) == KUMQUATSIEVE_OK)
+        return true;
+    kumquatsieve_segmenter_close(native);
+    raise_error(self->state, &error, position_in(format, &error));
+    return false;
+}
+
+/* Takes an idle native segmenter, or opens one. */
+static bool take(segmenter *self, kumquatsieve_segmenter *native) {
+    if (self->dictionary == NULL) {
+        PyErr_SetString(PyExc_ValueError, "the segmenter is closed");
+        return false;
+    }
+    if (self->idle_count == 0) return open_native(self, native);
+    *native = self->idle[--self->idle_count];
+    return true;
+}
+
+static void give_back(segmenter *self, kumquatsieve_segmenter *native, size_t longest) {
+    if (self->dictionary == NULL || self->idle_count == IDLE || longest > LONGEST_KEPT)
+        kumquatsieve_segmenter_close(native);
+    else
+        self->idle[self->idle_count++] = *native;
+}
+
+bool start_call(call *of, PyObject *object, PyObject *text, bool takes_bytes) {
+    segmenter *self = (segmenter *)object;
+    *of = (call){.self = self, .state = self->state, .text = text};
+    if (takes_bytes && PyBytes_Check(text)) {
+        of->utf8 = (utf8){PyBytes_AsString(text), (size_t)PyBytes_Size(text), text, true};
+        Py_INCREF(text);
+    } else if (!encode(self->state, text, self->is_strict, &of->utf8)) {
+        return false;
+    }
+    if (!take(self, &of->native)) {
+        free_utf8(&of->utf8);
+        return false;
+    }
+    of->dictionary = self->dictionary;
+    Py_INCREF(of->dictionary);
+    return true;
+}
+
+void end_call(call *of) {
+    give_back(of->self, &of->native, of->longest);
+    free_utf8(&of->utf8);
+    Py_DECREF(of->dictionary);
+}
+
+/* Returns whether a format has four items, each a text without a zero byte, or None. */
+static bool is_format(PyObject *format) {
+    if (!PyTuple_Check(format) || PyTuple_Size(format) != 4)
+        PyErr_Format(PyExc_ValueError, "%R is not a format: it must be 'wakati' or a Format",
+                     format);
+    for (Py_ssize_t at = 0; at < 4 && !PyErr_Occurred(); at++) {
+        PyObject *text = PyTuple_GetItem(format, at);
+        Py_ssize_t length = 0;
+        if (text != Py_None && !PyUnicode_Check(text))
+            raise_type("a text of a format must be a str or None", text);
+        else if (text != Py_None && PyUnicode_AsUTF8AndSize(text, &length) &&
+                 strlen(format_text(format, at)) != (size_t)length)
+            PyErr_SetString(PyExc_ValueError, "a text of a format has a null character");
+    }
+    return !PyErr_Occurred();
+}
+
+static PyObject *new_segmenter(PyTypeObject *type, PyObject *arguments, PyObject *keywords) {
+    core_state *state = state_of(type);
+    PyObject *given, *format;
+    unsigned grouping;
+    int is_strict;
+    kumquatsieve_segmenter native;
+    (void)keywords;
+    if (state == NULL || !PyArg_ParseTuple(arguments, "O!OIp", state->dictionary, &given, &format,
+                                           &grouping, &is_strict))
+        return NULL;
+    if (!is_format(format)) return NULL;
+    segmenter *self = (segmenter *)((allocfunc)PyType_GetSlot(type, Py_tp_alloc))(type, 0);
+    if (self == NULL) return NULL;
+    Py_INCREF(given);
+    Py_INCREF(format);
+    self->state = hold_state(state);
+    self->dictionary = (dictionary *)given;
+    self->format = format;
+    self->grouping = grouping;
+    self->is_strict = is_strict != 0;
+    /* The first one is opened at once, since that tests the format and the grouping. */
+    if (take(self, &native))
+        give_back(self, &native, 0);
+    else
+        Py_CLEAR(self);
+    return (PyObject *)self;
+}
+
+/* Frees the idle native segmenters. Those of calls that run are freed when these end. */
+static PyObject *close_segmenter(PyObject *object, PyObject *unused) {
+    segmenter *self = (segmenter *)object;
+    (void)unused;
+    while (self->idle_count > 0) kumquatsieve_segmenter_close(&self->idle[--self->idle_count]);
+    Py_CLEAR(self->dictionary);
+    Py_RETURN_NONE;
+}
+
+static void free_segmenter(PyObject *object) {
+    PyTypeObject *type = Py_TYPE(object);
+    PyObject *module = ((segmenter *)object)->state->module;
+    Py_XDECREF(close_segmenter(object, NULL));
+    Py_XDECREF(((segmenter *)object)->format);
+    ((freefunc)PyType_GetSlot(type, Py_tp_free))(object);
+    Py_DECREF(type);
+    Py_DECREF(module);
+}
+
+static PyObject *get_dictionary(PyObject *object, void *unused) {
+    PyObject *of = (PyObject *)((segmenter *)object)->dictionary;
+    (void)unused;
+    if (of == NULL) PyErr_SetString(PyExc_ValueError, "the segmenter is closed");
+    Py_XINCREF(of);
+    return of;
+}
+
+static PyObject *get_errors(PyObject *object, void *unused) {
+    (void)unused;
+    return PyUnicode_FromString(((segmenter *)object)->is_strict ? "strict" : "replace");
+}
+
+static PyObject *get_closed(PyObject *object, void *unused) {
+    (void)unused;
+    return PyBool_FromLong(((segmenter *)object)->dictionary == NULL);
+}
+
+static PyObject *share(PyObject *self, PyObject *unused) {
+    PyObject *copy = item_of("copy", "copy");
+    PyObject *other = copy ? PyObject_CallFunctionObjArgs(copy, self, NULL) : NULL;
+    (void)unused;
+    Py_XDECREF(copy);
+    return other;
+}
+
+static PyGetSetDef getters[] = {
+    {"dictionary", get_dictionary, NULL, "The dictionary of the segmenter.", NULL},
+    {"closed", get_closed, NULL, "Whether it was closed.", NULL},
+    {"errors", get_errors, NULL, "How a surrogate is treated.", NULL},
+    {NULL, NULL, NULL, NULL, NULL}};
+
+static PyMemberDef members[] = {
+    {"grouping", T_UINT, offsetof(segmenter, grouping), READONLY,
+     "How many characters may follow the first one of a grouped unknown word."},
+    {"_format", T_OBJECT, offsetof(segmenter, format), READONLY, NULL},
+    {NULL, 0, 0, 0, NULL}};
+
+static PyMethodDef methods[] = {
+    {"words", words_in, METH_O, "Returns the words of a text."},
+    {"wakati", wakati, METH_O, "Returns the surfaces of the words of a text."},
+    {"parse", parse, METH_O, "Returns the output of each line of a text, joined."},
+    {"close", close_segmenter, METH_NOARGS,
+     "Frees its memory. Calls that run end as usual, and later calls raise ValueError."},
+    {"_print_lines", print_lines, METH_VARARGS, NULL},
+    {"lattice", lattice, METH_O,
+     "Returns the lattice of a line, which shows why it was segmented so."},
+    {"share", share, METH_NOARGS, "Returns another segmenter over the same dictionary."},
+    {"__enter__", itself, METH_NOARGS, NULL},
+    {"__exit__", close_segmenter, METH_VARARGS, NULL},
+    {NULL, NULL, 0, NULL}};
+
+static PyType_Slot slots[] = {{Py_tp_new, new_segmenter},
+                              {Py_tp_dealloc, free_segmenter},
+                              {Py_tp_call, call_segmenter},
+                              {Py_tp_methods, methods},
+                              {Py_tp_getset, getters},
+                              {Py_tp_members, members},
+                              {0, NULL}};
+
+PyType_Spec segmenter_spec = {"kumquatsieve._core.Segmenter", sizeof(segmenter), 0,
+                              Py_TPFLAGS_DEFAULT | Py_TPFLAGS_BASETYPE, slots};
