@@ -1,6 +1,6 @@
 """The search over a mapped image, beside one that is copied into memory with --copy.
 
-PREFIX is where `packaging/install PREFIX` installed kumquatsieve-cut, which runs on one thread over
+PREFIX is where `packaging/install PREFIX` installed pjseg, which runs on one thread over
 the Japanese manual pages (Debian: manpages-ja), repeated until they have --megabytes. A copied
 image has huge pages if the kernel gives them. The row `without huge pages` turns them off by
 PR_SET_THP_DISABLE (prctl(2)).
@@ -41,7 +41,7 @@ def add_options(parser: argparse.ArgumentParser) -> None:
 
 def commands_of(prefix: Path, image: Path) -> List[Command]:
     """Returns the commands of NAMES."""
-    mapped: Command = [prefix / "bin" / "kumquatsieve-cut", "-j", "1", "-d", image]
+    mapped: Command = [prefix / "bin" / "pjseg", "-j", "1", "-d", image]
     copied: Command = [*mapped, "--copy"]
     return [mapped, copied, [sys.executable, "-c", SCRIPT, *copied]]
 

@@ -7,9 +7,9 @@ processes share counts as 1/n). The pages of a mapped file count in the first an
 the system drops them if it needs memory, and all processes share them. The last rows have the sum
 of the Pss of two processes: two that load the image each by itself, and one with its own child.
 
-The most of --rounds runs counts. The library is the one that KUMQUATSIEVE_LIBRARY names. Without
-the variable it is built from crates/cutter_c/out/libcutter_c.a, which needs gcc. If that is missing
-the status is 77, and nothing was measured.
+The most of --rounds runs counts. The module is in the folder that KUMQUATSIEVE_MODULE names.
+Without the variable it is built from crates/capi/out/libcapi.a, which needs gcc and python3-dev. If
+that is missing the status is 77, and nothing was measured.
 """
 import argparse
 import os

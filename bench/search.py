@@ -15,17 +15,18 @@ and not always as long. Loads and whole runs are measured with that test and wit
 
 One of these options measures something else instead:
 
-    --slices         jseg and the builds of it that --cut names, in slices: a program that waits for
-                     its text gets a quarter of a megabyte after another. The least CPU seconds of
-                     all rounds count for each slice. So a host that is slow for some tenths of a
-                     second changes little, and the load is no part of the search. A whole run is
-                     the least of the load, of each slice and of the end. A row has the seconds, the
-                     ratio, and the ratio by every other round, from the first on and from the
-                     second on. If these two differ by more than a twentieth the row is called
-                     uncertain.
-    --cut PROGRAM    kumquatsieve-cut on one thread, in turn with jseg and mecab, without the test
-                     of the checksum. It may be given more than once. A program whose name starts
-                     with jseg is another build of jseg.
+    --slices         jseg, and the builds of it that --program names, in slices: a program that
+                     waits for its text gets a quarter of a megabyte after another. The least CPU
+                     seconds of all rounds count for each slice. So a host that is slow for some
+                     tenths of a second changes little, and the load is no part of the search. A
+                     whole run is the least of the load, of each slice and of the end. A row has the
+                     seconds, the ratio, and the ratio by every other round, from the first on and
+                     from the second on. If these two differ by more than a twentieth the row is
+                     called uncertain.
+    --program PROGRAM
+                     pjseg on one thread, in turn with jseg and mecab, without the test of the
+                     checksum. It may be given more than once. A program whose name starts with jseg
+                     is another build of jseg.
     --library        the library for C in turn with jseg, the Python module in turn with MeCab's,
                      and libmecab over this library in turn with MeCab's own
     --nodes          libmecab alone: one program over both libraries reads the fields of each node
@@ -36,7 +37,7 @@ One of these options measures something else instead:
                      those of the library.
 
 Needs: dictc and jseg in crates/*/out, mecab, mecab-dict-index, time, the Japanese manual pages and
-a quiet machine; for the library gcc, python3-mecab and crates/cutter_c/out/libcutter_c.a; for nodes
+a quiet machine; for the library gcc, python3-mecab and crates/capi/out/libcapi.a; for nodes
 g++ and libmecab-dev; for instructions valgrind. A dictionary that is not installed is reported as
 left out, and so is the library.
 """
@@ -59,6 +60,7 @@ from measure.instructions import measure_instructions, measure_library_instructi
 from measure.library import measure_library
 from measure.rows import TIMES, print_memory, print_times
 from measure.runs import in_turn, with_loads, without
+from measure.saved import add_save_option
 from measure.slices import measure_slices
 
 HELP = "measure this instead: see above"
@@ -70,8 +72,9 @@ def add_options(parser: argparse.ArgumentParser) -> None:
     for name in ("--slices", "--library", "--nodes", "--instructions"):
         parser.add_argument(name, action="store_true", help=HELP)
     parser.add_argument(
-        "--cut", action="append", default=[], type=Path, metavar="PROGRAM", help=HELP
+        "--program", action="append", default=[], type=Path, metavar="PROGRAM", help=HELP
     )
+    add_save_option(parser)
     add_names(parser)
 
 
@@ -106,7 +109,7 @@ def chosen(options: argparse.Namespace) -> Callable[[Compared], None]:
         return measure_library_instructions if options.library else measure_instructions
     if options.slices:
         return measure_slices
-    if options.cut:
+    if options.program:
         return measure_builds
     return measure_library if options.library else measure_search
 
@@ -115,11 +118,13 @@ def run(options: argparse.Namespace) -> int:
     options.library |= options.nodes
     if options.slices and options.rounds < 2:
         options.error("--slices needs two rounds at least")
-    if options.slices and any(map(thread_options, options.cut)):
+    if options.slices and any(map(thread_options, options.program)):
         options.error(
             "--slices is for builds of jseg, whose names start so: "
-            "kumquatsieve-cut may wait for more text before it segments"
+            "pjseg may wait for more text before it segments"
         )
+    if options.save and not options.slices:
+        options.error("--save needs --slices: it keeps no other numbers")
     measure = chosen(options)
 
     def compile_and_measure(compared: Compared) -> None:

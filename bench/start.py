@@ -31,6 +31,7 @@ from pathlib import Path
 from typing import Dict, List, NamedTuple, Optional, Sequence, Tuple
 
 from measure.rows import MB
+from measure.saved import add_save_option, note
 from support.running import LEFT_OUT, TOP
 
 CLIENT = TOP / "bench" / "clients" / "start.py"
@@ -71,20 +72,20 @@ Group = Tuple[Program, ...]
 def programs_of(prefix: Path, python: Path, image: Path, mecab: Path) -> List[Group]:
     """Returns the programs in groups whose members take turns, MeCab's first in each."""
     theirs = Program("mecab", ["mecab", "-d", str(mecab)], {})
-    cut = [f"{prefix}/bin/kumquatsieve-cut", "-d", str(image)]
+    pjseg = [f"{prefix}/bin/pjseg", "-d", str(image)]
     ours = ["mecab", "-r", "/dev/null", "-d", str(image)]
     own_libmecab = {"LD_LIBRARY_PATH": f"{prefix}/lib/kumquatsieve/mecab"}
     return [
         (
             theirs,
-            Program("kumquatsieve-cut, record", cut, {}),
-            Program("kumquatsieve-cut, rules", cut, NEVER),
-            Program("kumquatsieve-cut, digest", [*cut, "--test-digest"], {}),
+            Program("pjseg, record", pjseg, {}),
+            Program("pjseg, rules", pjseg, NEVER),
+            Program("pjseg, digest", [*pjseg, "--test-digest"], {}),
         ),
         (
-            theirs,
-            Program("mecab over libmecab.so.2 of ours, record", ours, own_libmecab),
-            Program("mecab over libmecab.so.2 of ours, rules", ours, {**own_libmecab, **NEVER}),
+            theirs._replace(name="mecab over MeCab's libmecab"),
+            Program("mecab over our libmecab, record", ours, own_libmecab),
+            Program("mecab over our libmecab, rules", ours, {**own_libmecab, **NEVER}),
         ),
         python_programs(prefix, python, image, mecab),
     ]
@@ -94,7 +95,6 @@ def python_programs(prefix: Path, python: Path, image: Path, mecab: Path) -> Gro
     client = ["/usr/bin/python3", str(CLIENT)]
     module = {
         "PYTHONPATH": str(python),
-        "KUMQUATSIEVE_LIBRARY": f"{prefix}/lib/libkumquatsieve.so.0",
         # The first run writes the module's compiled files, as an installation does.
         "PYTHONDONTWRITEBYTECODE": "",
     }
@@ -135,9 +135,9 @@ def measure_starts(name: str, groups: List[Group], rounds: int) -> None:
         for label, each in runs.items():
             elapsed = [one.elapsed * 1000 for one in each]
             cpu = min(one.cpu for one in each) * 1000
-            print(
-                f"| {label} | {min(elapsed):.1f} | {statistics.median(elapsed):.1f} | {cpu:.1f} |"
-            )
+            least, median = min(elapsed), statistics.median(elapsed)
+            print(f"| {label} | {least:.1f} | {median:.1f} | {cpu:.1f} |")
+            note("start", name, label, milliseconds=least, median=median, cpu=cpu)
 
 
 def memory_of(pid: int, fields: Sequence[str]) -> int:
@@ -166,14 +166,13 @@ def memory_together(program: Program, count: int) -> Tuple[float, float]:
 def measure_memory(name: str, groups: List[Group], counts: Sequence[int]) -> None:
     columns = " | ".join(f"{count}: Pss | private" for count in counts)
     print(f"\n| MB of processes, {name} | {columns} |\n|{'---|' * (1 + 2 * len(counts))}")
-    programs = {program.name: program for group in groups for program in group}
-    for label, program in programs.items():
-        # kumquatsieve-cut waits for a megabyte or the end of its text, and has threads in place of
-        # processes.
-        if label.startswith("kumquatsieve-cut"):
-            continue
+    # pjseg, of the first group, waits for a megabyte or the end of its text, and has threads in
+    # place of processes.
+    for program in (program for group in groups[1:] for program in group):
         found = [memory_together(program, count) for count in counts]
-        print(f"| {label} | {' | '.join(f'{pss:.1f} | {own:.1f}' for pss, own in found)} |")
+        print(f"| {program.name} | {' | '.join(f'{pss:.1f} | {own:.1f}' for pss, own in found)} |")
+        for count, (pss, own) in zip(counts, found):
+            note(f"memory of {count}", name, program.name, megabytes=pss, private=own)
 
 
 def image_of(name: str, folder: Path, prefix: Path) -> Optional[Path]:
@@ -198,6 +197,7 @@ def add_options(parser: argparse.ArgumentParser) -> None:
     parser.add_argument("--images", type=Path, metavar="FOLDER")
     parser.add_argument("--python", type=Path, required=True, metavar="FOLDER")
     parser.add_argument("prefix", type=Path, metavar="PREFIX")
+    add_save_option(parser)
 
 
 def run(options: argparse.Namespace) -> int:

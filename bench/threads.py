@@ -1,13 +1,13 @@
 """`wakati_lines` of the Python module in several threads, beside one thread.
 
-Each thread segments a part of the text, with a share of one Cutter. The text consists of the files,
-repeated until it has so many megabytes; lines that are not UTF-8 are left out. Without a file it
-consists of the Japanese manual pages (Debian: manpages-ja). Without an image it is segmented with
-the sample's. One thread and several take turns, --rounds times. A row has the least and the median
-of the elapsed seconds, the least of the CPU seconds, the ratio of the least elapsed seconds to
-those of one thread, and the spread of the elapsed seconds, from the least to the most, in parts of
-the least. After the rows follows what else the machine did. If a spread is above a tenth, or other
-work took more than a twentieth of the processors, the ratio is called uncertain.
+Each thread segments a part of the text, with a share of one Segmenter. The text consists of the
+files, repeated until it has so many megabytes; lines that are not UTF-8 are left out. Without a
+file it consists of the Japanese manual pages (Debian: manpages-ja). Without an image it is
+segmented with the sample's. One thread and several take turns, --rounds times. A row has the least
+and the median of the elapsed seconds, the least of the CPU seconds, the ratio of the least elapsed
+seconds to those of one thread, and the spread of the elapsed seconds, from the least to the most,
+in parts of the least. After the rows follows what else the machine did. If a spread is above a
+tenth, or other work took more than a twentieth of the processors, the ratio is called uncertain.
 
 The status is 1 if the lines differ, or if the ratio is above --most: 0.4 is what four threads on
 four idle processors take at most. With --most the status is 77 if the ratio is uncertain, because
@@ -17,12 +17,12 @@ With --instructions the instructions of one thread over 1 MB are counted instead
 those of them that are in the library's own code. Other threads run during these, and none runs
 during the rest, which are Python's. The counts are the same whatever else the machine does.
 
-The library is the one that KUMQUATSIEVE_LIBRARY names. Without the variable it is built from
-crates/cutter_c/out/libcutter_c.a, which needs gcc. The sample's image needs crates/dictc/out/dictc,
-and instructions need valgrind. If one is missing the status is 77, and nothing was measured.
+The module is in the folder that KUMQUATSIEVE_MODULE names. Without the variable it is built from
+crates/capi/out/libcapi.a, which needs gcc and python3-dev. The sample's image needs
+crates/dictc/out/dictc, and instructions need valgrind. If one is missing the status is 77, and
+nothing was measured.
 """
 import argparse
-import os
 import shutil
 import statistics
 import subprocess
@@ -38,14 +38,14 @@ from compare_with_mecab.dictionaries import Command
 from compare_with_mecab.texts import common_lines, manual_pages
 from measure.counts import instructions_in
 from measure.host import Host
-from measure.python_module import LIBRARY, end_unmeasured, use_module
+from measure.python_module import end_unmeasured, use_module
 from measure.rows import MB
 from measure.runs import CERTAIN, NO_TEXT
 from measure.texts import whole_lines, written
 from support.running import LEFT_OUT, SAMPLE, TOP, program
 
 if TYPE_CHECKING:
-    from kumquatsieve import Cutter
+    from kumquatsieve import Segmenter
 
 T = TypeVar("T")
 
@@ -87,16 +87,16 @@ def sample_image(folder: Path) -> Path:
 
 
 def in_threads(
-    cutter: "Cutter", parts: List[bytes], count: int, take: Callable[[Iterator[str]], T]
+    segmenter: "Segmenter", parts: List[bytes], count: int, take: Callable[[Iterator[str]], T]
 ) -> List[T]:
     """Segments each part by one of `count` threads, and returns what `take` makes of its lines."""
     with ThreadPoolExecutor(count) as threads:
-        return list(threads.map(lambda part: take(cutter.share().wakati_lines(part)), parts))
+        return list(threads.map(lambda part: take(segmenter.share().wakati_lines(part)), parts))
 
 
-def time_threads(cutter: "Cutter", parts: List[bytes], count: int) -> Seconds:
+def time_threads(segmenter: "Segmenter", parts: List[bytes], count: int) -> Seconds:
     start, used = time.monotonic(), time.process_time()
-    in_threads(cutter, parts, count, deque[str](maxlen=0).extend)
+    in_threads(segmenter, parts, count, deque[str](maxlen=0).extend)
     return Seconds(time.monotonic() - start, time.process_time() - used)
 
 
@@ -118,17 +118,17 @@ def print_row(count: int, runs: Sequence[Seconds], one: float, size: float) -> f
     return ratio
 
 
-def measure(cutter: "Cutter", text: bytes, options: argparse.Namespace) -> int:
+def measure(segmenter: "Segmenter", text: bytes, options: argparse.Namespace) -> int:
     """Measures one thread and several in turn, and returns the status."""
     parts = parts_of(text, options.threads)
-    several, alone = (in_threads(cutter, parts, n, list[str]) for n in (options.threads, 1))
+    several, alone = (in_threads(segmenter, parts, n, list[str]) for n in (options.threads, 1))
     if several != alone:
         print("bench/run threads: the lines differ from those of one thread", file=sys.stderr)
         return 1
     runs: dict[int, list[Seconds]] = {1: [], options.threads: []}
     with Host() as host:
         for count in list(runs) * options.rounds:
-            runs[count].append(time_threads(cutter, parts, count))
+            runs[count].append(time_threads(segmenter, parts, count))
     print(
         "| threads | least | median | CPU | MB/s | to one | spread |\n|---|---|---|---|---|---|---|"
     )
@@ -148,7 +148,7 @@ def count_instructions(image: Path, text: bytes, threads: int, folder: Path) -> 
     path = written(folder, "text", text)
     lines = TOP / "bench" / "clients" / "lines.py"
     command: Command = [sys.executable, lines, "wakati_lines", image]
-    library = Path(os.environ[LIBRARY]).name
+    library = "_core.abi3.so"
     runs, loads = (instructions_in(command, read, library) for read in (path, NO_TEXT))
     whole, own = (run - load for run, load in zip(runs, loads))
     alone = 1 - own / whole
@@ -190,6 +190,6 @@ def run(options: argparse.Namespace) -> int:
         if options.instructions:
             text = whole_lines(corpus(options.texts, MB), MB)
             return count_instructions(image, text, options.threads, folder)
-        from kumquatsieve import Cutter
+        from kumquatsieve import Segmenter
 
-        return measure(Cutter(image), corpus(options.texts, options.megabytes * MB), options)
+        return measure(Segmenter(image), corpus(options.texts, options.megabytes * MB), options)

@@ -8,7 +8,7 @@ import sys
 from typing import TYPE_CHECKING, Any, Callable, Iterator
 
 if TYPE_CHECKING:
-    from kumquatsieve import Cutter
+    from kumquatsieve import Segmenter
 
 # A function that segments a line, or a text.
 Segment = Callable[[str], object]
@@ -21,10 +21,10 @@ def mecab(dictionary: str, output: str = "") -> Any:
     return MeCab.Tagger(f"-r /dev/null -d {dictionary}{output}")
 
 
-def cutter_of(dictionary: str, format: "str | None" = None) -> "Cutter":
-    from kumquatsieve import Cutter
+def segmenter_of(dictionary: str, format: "str | None" = None) -> "Segmenter":
+    from kumquatsieve import Segmenter
 
-    return Cutter(dictionary, format=format)
+    return Segmenter(dictionary, format=format)
 
 
 def over_nodes(tagger: Any) -> Segment:
@@ -39,11 +39,11 @@ def over_nodes(tagger: Any) -> Segment:
     return walk
 
 
-def over_words(cutter: "Cutter") -> Segment:
+def over_words(segmenter: "Segmenter") -> Segment:
     """Returns a function that reads the surface and the feature of each word of a line."""
 
     def walk(line: str) -> None:
-        for word in cutter.cut(line):
+        for word in segmenter(line):
             word.surface, word.feature
 
     return walk
@@ -76,12 +76,12 @@ def all_of(segment: Callable[[str], Iterator[str]]) -> Segment:
 
 # The functions that open a dictionary, and return the function that segments a text.
 WAYS: dict[str, Callable[[str], Segment]] = {
-    "parse": lambda dictionary: each(cutter_of(dictionary).parse),
-    "parse, wakati": lambda dictionary: each(cutter_of(dictionary, "wakati").parse),
-    "parse_lines": lambda dictionary: all_of(cutter_of(dictionary).parse_lines),
-    "wakati": lambda dictionary: each(cutter_of(dictionary).wakati),
-    "wakati_lines": lambda dictionary: all_of(cutter_of(dictionary).wakati_lines),
-    "cut": lambda dictionary: each(over_words(cutter_of(dictionary))),
+    "parse": lambda dictionary: each(segmenter_of(dictionary).parse),
+    "parse, wakati": lambda dictionary: each(segmenter_of(dictionary, "wakati").parse),
+    "parse_lines": lambda dictionary: all_of(segmenter_of(dictionary).parse_lines),
+    "wakati": lambda dictionary: each(segmenter_of(dictionary).wakati),
+    "wakati_lines": lambda dictionary: all_of(segmenter_of(dictionary).wakati_lines),
+    "words": lambda dictionary: each(over_words(segmenter_of(dictionary))),
     "MeCab: parse": lambda dictionary: each(mecab(dictionary).parse),
     "MeCab: parse, wakati": lambda dictionary: each(mecab(dictionary, " -O wakati").parse),
     "MeCab: wakati": lambda dictionary: each(split(mecab(dictionary, " -O wakati"))),

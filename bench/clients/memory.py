@@ -8,7 +8,7 @@ import os
 import sys
 from typing import Callable, Optional
 
-from kumquatsieve import Cutter
+from kumquatsieve import Segmenter
 
 LINE = "もも"
 
@@ -18,18 +18,19 @@ def read(path: str) -> bytes:
         return file.read()
 
 
-def forked(path: str) -> Cutter:
-    """Returns a Cutter with which a child of this process segments too. The child waits as well."""
-    cutter = Cutter(path)
+def forked(path: str) -> Segmenter:
+    """Returns a Segmenter with which a child of this process segments too. The child waits as
+    well."""
+    segmenter = Segmenter(path)
     if os.fork() == 0:
-        cutter.wakati(LINE)
-    return cutter
+        segmenter.wakati(LINE)
+    return segmenter
 
 
-LOADS: dict[str, Callable[[str], Optional[Cutter]]] = {
-    "path": Cutter,
-    "path, test_digest": lambda path: Cutter(path, test_digest=True),
-    "bytes": lambda path: Cutter(read(path)),
+LOADS: dict[str, Callable[[str], Optional[Segmenter]]] = {
+    "path": Segmenter,
+    "path, test_digest": lambda path: Segmenter(path, test_digest=True),
+    "bytes": lambda path: Segmenter(read(path)),
     "forked": forked,
     "nothing": lambda path: None,
 }
@@ -37,9 +38,9 @@ LOADS: dict[str, Callable[[str], Optional[Cutter]]] = {
 
 def main() -> None:
     load, path = sys.argv[1:]
-    cutter = LOADS[load](path)
-    if cutter:
-        cutter.wakati(LINE)
+    segmenter = LOADS[load](path)
+    if segmenter:
+        segmenter.wakati(LINE)
     print(os.getpid(), flush=True)
     sys.stdin.read()
     os._exit(0)

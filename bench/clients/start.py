@@ -21,10 +21,10 @@ def segmenter_of(module: str, dictionary: str) -> "Callable[[str], str]":
 
         tagger = MeCab.Tagger(f"-r /dev/null -d {dictionary} -O wakati")
         return lambda line: str(tagger.parse(line)).strip()
-    from kumquatsieve import Cutter
+    from kumquatsieve import Segmenter
 
-    cutter = Cutter(dictionary)
-    return lambda line: " ".join(cutter.wakati(line))
+    segmenter = Segmenter(dictionary)
+    return lambda line: " ".join(segmenter.wakati(line))
 
 
 def main() -> None:

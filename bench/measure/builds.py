@@ -1,4 +1,4 @@
-"""kumquatsieve-cut on one thread, and other builds of jseg, in turn with jseg and mecab."""
+"""pjseg on one thread, and other builds of jseg, in turn with jseg and mecab."""
 from pathlib import Path
 
 from compare_with_mecab.dictionaries import Command
@@ -8,7 +8,7 @@ from measure.runs import with_loads, without
 
 
 def build_commands(compared: Compared, words: list[str]) -> dict[str, Command]:
-    """Returns the commands to compare: each program that --cut names, jseg, and mecab as the last.
+    """Returns the commands to compare: each program of --program, then jseg, and mecab as the last.
 
     The programs are named by their file names and their numbers in the command line. Ours don't
     test the checksum of the image.
@@ -17,7 +17,7 @@ def build_commands(compared: Compared, words: list[str]) -> dict[str, Command]:
     common = [*ours[1:], SKIP]
     builds: dict[str, Command] = {
         f"{program.name} {number}": [program, *thread_options(program), *common]
-        for number, program in enumerate(compared.options.cut, 1)
+        for number, program in enumerate(compared.options.program, 1)
     }
     return {**builds, "jseg": [ours[0], *common], "mecab": theirs}
 
@@ -37,7 +37,7 @@ def thread_options(program: Path) -> list[str]:
 
 
 def measure_builds(compared: Compared) -> None:
-    """Measures the loads and the search of each program that --cut names, and of jseg."""
+    """Measures the loads and the search of each program of --program, and of jseg."""
     options, text = compared.options, compared.text(compared.options.bytes)
     for label, words in FORMATS.items():
         commands = build_commands(compared, words)

@@ -12,7 +12,7 @@ from measure.texts import japanese, written
 
 # The output formats whose search is measured, by their options.
 FORMATS: dict[str, list[str]] = {"wakati": WAKATI, "default": []}
-# The option without which jseg and kumquatsieve-cut test the checksum of an image.
+# The option without which jseg and pjseg test the checksum of an image.
 SKIP = "--skip-digest"
 
 

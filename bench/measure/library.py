@@ -10,6 +10,7 @@ from typing import Callable
 
 from compare_with_mecab.dictionaries import WAKATI, Command
 from measure.compared import Compared
+from measure.python_module import module_folder
 from measure.rows import WAYS, print_ways
 from measure.runs import with_loads, without
 from support.running import ARCHIVE, TOP, Words, run
@@ -30,7 +31,7 @@ LIBRARY_WAYS = [
     ("parse_lines", "MeCab: parse"),
     ("wakati", "MeCab: wakati"),
     ("wakati_lines", "MeCab: parse, wakati"),
-    ("cut", "MeCab: parseToNode"),
+    ("words", "MeCab: parseToNode"),
 ]
 # The ways of clients/nodes.c, which reads the nodes of libmecab.
 NODE_WAYS = [("nodes, lattice", "MeCab: nodes, lattice"), ("nodes, tonode", "MeCab: nodes, tonode")]
@@ -88,15 +89,15 @@ def build_nodes(compared: Compared) -> None:
 
 
 def build_library(compared: Compared) -> Path:
-    """Builds the libraries, the example in C and the program that reads nodes.
+    """Builds the libraries, the program that segments lines, and the one that reads nodes.
 
     Returns the prefix of the libraries.
     """
     prefix, nodes = compared.folder / "prefix", ["--mecab"] if can_measure_nodes() else []
     words: Words = [TOP / "packaging/build-library", "--built", *nodes, prefix]
     run(words, stderr=subprocess.DEVNULL)
-    archive, example = prefix / "lib" / "libkumquatsieve.a", TOP / "examples" / "c" / "cut.c"
-    run(["gcc", "-O2", f"-I{prefix / 'include'}", example, archive, "-o", compared.folder / "cut"])
+    archive, client = prefix / "lib" / "libkumquatsieve.a", CLIENTS / "lines.c"
+    run(["gcc", "-O2", f"-I{prefix / 'include'}", client, archive, "-o", compared.folder / "lines"])
     if nodes:
         build_nodes(compared)
     return prefix
@@ -107,8 +108,7 @@ def way_commands(compared: Compared) -> Commands:
     prefix, folder, sources = build_library(compared), compared.folder, compared.sources
     module: Command = [
         "env",
-        f"PYTHONPATH={TOP / 'python'}",
-        f"KUMQUATSIEVE_LIBRARY={prefix / 'lib' / 'libkumquatsieve.so.0'}",
+        f"PYTHONPATH={module_folder(folder)}",
         "PYTHONDONTWRITEBYTECODE=1",
         PYTHON,
         CLIENTS / "lines.py",
@@ -122,7 +122,7 @@ def way_commands(compared: Compared) -> Commands:
             jseg = compared.programs.jseg
             return [jseg, "-d", sources.image, *(WAKATI if wakati else [])]
         if program == "C":
-            return [folder / "cut", sources.image, *(["wakati"] if wakati else [])]
+            return [folder / "lines", sources.image, *(["wakati"] if wakati else [])]
         if program == "MeCab: nodes":
             return [folder / "nodes", kind, sources.mecab]
         if program == "nodes":

@@ -1,14 +1,14 @@
-"""The Python module over a library, for a benchmark in a process of its own."""
+"""The Python module, for a benchmark in a process of its own."""
 import os
-import shutil
 import subprocess
 import sys
 from pathlib import Path
 from typing import NoReturn, Union
 
-from support.running import ARCHIVE, LEFT_OUT, TOP, Words, run
+from support.running import ARCHIVE, LEFT_OUT, TOP, Words
 
-LIBRARY = "KUMQUATSIEVE_LIBRARY"
+# A folder that packaging/build-module filled, instead of a new one.
+MODULE = "KUMQUATSIEVE_MODULE"
 
 
 def end_unmeasured(missing: Union[str, Path]) -> NoReturn:
@@ -17,17 +17,23 @@ def end_unmeasured(missing: Union[str, Path]) -> NoReturn:
     sys.exit(LEFT_OUT)
 
 
-def use_module(folder: Path) -> None:
-    """Lets this process and those that it starts import the module here.
+def module_folder(folder: Path) -> Path:
+    """Returns the folder of the module, which is built in `folder` unless the variable names it."""
+    if MODULE in os.environ:
+        return Path(os.environ[MODULE])
+    if not ARCHIVE.exists():
+        end_unmeasured(ARCHIVE)
+    words: Words = [TOP / "packaging/build-module", "--built", folder / "module"]
+    built = subprocess.run(words, stdout=subprocess.DEVNULL, stderr=subprocess.DEVNULL)
+    if built.returncode == LEFT_OUT:
+        end_unmeasured("gcc, or Python.h (Debian: python3-dev),")
+    built.check_returncode()
+    return folder / "module"
 
-    Builds the library in `folder`, unless the variable KUMQUATSIEVE_LIBRARY names one.
-    """
-    if LIBRARY not in os.environ:
-        if not (shutil.which("gcc") and ARCHIVE.exists()):
-            end_unmeasured(f"gcc or {ARCHIVE}")
-        words: Words = [TOP / "packaging/build-library", "--built", folder / "prefix"]
-        run(words, stderr=subprocess.DEVNULL)
-        os.environ[LIBRARY] = str(folder / "prefix" / "lib" / "libkumquatsieve.so.0")
-    os.environ["PYTHONPATH"] = str(TOP / "python")
+
+def use_module(folder: Path) -> None:
+    """Lets this process and those that it starts import the module here."""
+    built = module_folder(folder)
+    os.environ[MODULE] = os.environ["PYTHONPATH"] = str(built)
     os.environ["PYTHONDONTWRITEBYTECODE"] = "1"
-    sys.path.insert(0, str(TOP / "python"))
+    sys.path.insert(0, str(built))

@@ -12,6 +12,7 @@ from typing import NamedTuple, NoReturn, Sequence
 from compare_with_mecab.dictionaries import Command
 from measure.builds import build_commands, with_digest
 from measure.compared import FORMATS, Compared
+from measure.saved import note
 from measure.texts import japanese
 
 # About how many bytes a slice has, which take some hundredths of a second.
@@ -148,14 +149,28 @@ def measure_slices(compared: Compared) -> None:
         whole, (*skipped, theirs) = found[: len(tested)], found[len(tested) :]
         for name, one, skips in zip(tested, whole, skipped):
             print_slices(f"search, {name}", skips.search(), theirs.search())
+            note_search(f"search, {label}", compared.name, name, skips.search(), theirs.search())
             print_slices(f"whole run, {name}", one, theirs)
             print_slices("the same, --skip-digest", skips, theirs)
+
+
+def is_certain(ratios: Sequence[float]) -> bool:
+    """Returns whether the ratios of the odd and of the even rounds differ little."""
+    return max(ratios[1:]) <= min(ratios[1:]) * (1 + CERTAIN)
 
 
 def print_slices(label: str, ours: Rounds, theirs: Rounds) -> None:
     """Prints a row with the columns COLUMNS."""
     ratios = ours.ratios_to(theirs)
-    certain = max(ratios[1:]) <= min(ratios[1:]) * (1 + CERTAIN)
+    certain = is_certain(ratios)
     numbers = " ".join(f"{ratio:6.3f}" for ratio in ratios)
     seconds = f"{ours.least():9.3f} {theirs.least():9.3f}"
     print(f"{label:26} {seconds} {numbers} {'' if certain else ' uncertain'}")
+
+
+def note_search(what: str, dictionary: str, name: str, ours: Rounds, theirs: Rounds) -> None:
+    """Keeps the seconds of a search for the charts, and whether their ratio is uncertain."""
+    ratios = ours.ratios_to(theirs)
+    uncertain = {} if is_certain(ratios) else {"uncertain": 1}
+    note(what, dictionary, name, seconds=ours.least(), ratio=ratios[0], **uncertain)
+    note(what, dictionary, "mecab", seconds=theirs.least())
