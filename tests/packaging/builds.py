@@ -45,6 +45,8 @@ from support.running import LEFT_OUT, TOP, end_left_out, leave_out, missing_of  
 
 NEEDS = ("gcc", "g++", "ar", "ld", "objcopy", "strip", "readelf")
 MECAB_HEADER = Path("/usr/include/mecab.h")
+# The heap of the programs, which is compiled where they are linked from their objects.
+HEAP = TOP / "capi/heap.c"
 # A compiler whose objects are for another machine when a script tests whether they can be linked.
 OTHER_MACHINE = """#!/bin/sh
 case "$*" in
@@ -61,7 +63,7 @@ exec {tool} "$@"
 # Files that packaging/install installs with --mecab and --libdir lib/own.
 INSTALLED = (
     "bin/jseg",
-    "bin/kumquatsieve-cut",
+    "bin/pjseg",
     "include/kumquatsieve.h",
     "lib/own/libkumquatsieve.a",
     "lib/own/kumquatsieve/mecab/libmecab.so.2",
@@ -141,9 +143,10 @@ def check_environment(folder: Path) -> None:
 
 
 def sources() -> List[Path]:
-    """Returns the sources in C and C++ of the libraries and of the heap."""
+    """Returns the sources in C and C++ of the libraries, and the heap if programs are linked."""
     folders = (TOP / "capi", TOP / "libmecab")
-    return [path for kind in ("*.c", "*.cc") for folder in folders for path in folder.rglob(kind)]
+    files = [path for kind in ("*.c", "*.cc") for folder in folders for path in folder.rglob(kind)]
+    return [path for path in files if HAS_OBJECTS or path != HEAP]
 
 
 def check_compiled(source: Path, lines: List[str]) -> None:
@@ -259,6 +262,8 @@ def main() -> int:
         end_left_out(f"{missing()[0]} is missing")
     with tempfile.TemporaryDirectory() as made:
         for number, (name, check) in enumerate(CASES):
+            if check is check_programs and not HAS_OBJECTS:
+                continue
             folder = Path(made, str(number))
             folder.mkdir()
             check(folder)
