@@ -152,7 +152,7 @@ class Line:
         return None
 
     def walks(self) -> Dict[int, Walk]:
-        """Returns the state at each position where a rival may leave the best path."""
+        """Returns the state at each position at which a rival may leave the best path."""
         return {0: Walk()} | {
             node.end: Walk(node.end, node.right, node.total) for node in self.best
         }

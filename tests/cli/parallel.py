@@ -1,7 +1,7 @@
 #!/usr/bin/env python3
 """Segments a corpus with one jseg and with GNU parallel over blocks of lines, and compares.
 
-    tests/cli/parallel.py [--image IMG] [--cut PROGRAM] [--mecab DIR] [--megabytes N] [--block N]
+    tests/cli/parallel.py [--image IMG] [--pjseg PROGRAM] [--mecab DIR] [--megabytes N] [--block N]
                           [--rounds N] [TEXT..]
 
 The outputs have to be the same, byte for byte; the status is 1 if one differs. The speeds are
@@ -9,7 +9,7 @@ printed.
 
 The corpus is made of the texts, repeated until it has N megabytes, without lines that are not
 UTF-8. The default texts are the Japanese manual pages (Debian: manpages-ja). The default dictionary
-is the sample. With --image and --cut it is also segmented by a kumquatsieve-cut, on as many threads
+is the sample. With --image and --pjseg it is also segmented by a pjseg, on as many threads
 as there are jobs. With --mecab it is also segmented by MeCab with the dictionary in DIR, which has
 to be compiled from the same sources.
 
@@ -101,8 +101,8 @@ def commands(options: argparse.Namespace) -> Iterator[Tuple[str, List[str]]]:
     if options.mecab:
         mecab = ["mecab", "-r", "/dev/null", "-b", "1100000", "-d", str(options.mecab)]
         yield "MeCab", [*mecab, "-O", "wakati"]
-    for cores in CORES if options.cut else ():
-        yield f"`kumquatsieve-cut -j {cores}`", [str(options.cut), "-j", str(cores), *words]
+    for cores in CORES if options.pjseg else ():
+        yield f"`pjseg -j {cores}`", [str(options.pjseg), "-j", str(cores), *words]
     for cores in CORES if shutil.which("parallel") else ():
         jobs = ["parallel", "--will-cite", "--pipe", "-k", "--block", options.block]
         yield f"`parallel --pipe -k -j {cores}`", [*jobs, "-j", str(cores), str(JSEG), *words]
@@ -131,15 +131,15 @@ def parse_options() -> argparse.Namespace:
         description=__doc__, formatter_class=argparse.RawDescriptionHelpFormatter
     )
     parser.add_argument("--image", type=Path)
-    parser.add_argument("--cut", type=Path, metavar="PROGRAM")
+    parser.add_argument("--pjseg", type=Path, metavar="PROGRAM")
     parser.add_argument("--mecab", type=Path, metavar="DIR")
     parser.add_argument("--rounds", type=int, default=1, metavar="N")
     parser.add_argument("--megabytes", type=int, default=40, metavar="N")
     parser.add_argument("--block", default="2M", metavar="N")
     parser.add_argument("texts", nargs="*", type=Path)
     options = parser.parse_args()
-    if options.cut and not options.image:
-        parser.error("--cut needs --image")
+    if options.pjseg and not options.image:
+        parser.error("--pjseg needs --image")
     return options
 
 
@@ -149,7 +149,7 @@ def main() -> int:
     if not JSEG.exists():
         print(f"parallel: {JSEG} is not built: nothing was compared", file=sys.stderr)
         return 2
-    if not options.cut and not has_parallel:
+    if not options.pjseg and not has_parallel:
         print("parallel: GNU parallel is missing: nothing was compared", file=sys.stderr)
         return LEFT_OUT
     with tempfile.TemporaryDirectory() as folder:

@@ -4,7 +4,7 @@ from typing import List, Union
 from .cases import CASES
 from .cases.case import Case, Has, RecordOf
 
-PJSEG = "kumquatsieve-cut"
+PJSEG = "pjseg"
 # Options that pjseg doesn't have.
 JSEG_ONLY = {"--help", "--lattice", "--within", "--why"}
 
@@ -31,13 +31,15 @@ def of_pjseg(case: Case, threads: int) -> Case:
 def is_shared(case: Case) -> bool:
     """Returns whether pjseg has to meet a case: one over an image or the sample.
 
-    jseg alone has explanations, the progress of a load, and records instead of the checksum.
+    jseg alone has explanations, hints that name its other options, the progress of a load, and
+    records instead of the checksum.
     """
-    options = set(case.command.split())
+    options, expected = set(case.command.split()), str(case.err)
     return (
         case.command.startswith("jseg ")
         and bool({"-d", "--sample"} & options)
         and not JSEG_ONLY & options
+        and not any(option in expected for option in JSEG_ONLY)
         and "comes slowly, on a terminal" not in case.name
         and not any(isinstance(found, RecordOf) for found in case.files.values())
     )

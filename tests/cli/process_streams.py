@@ -34,9 +34,13 @@ def failing_input(text: bytes) -> int:
     return ours
 
 
-def reset_input() -> int:
-    """Returns a connection that was reset: the first read fails, and the next ones find the end."""
+def reset_input(text: bytes) -> int:
+    """Returns a connection that was reset after `text`, if that is not empty, was sent.
+
+    The read after the text fails, and the next ones find the end.
+    """
     ours, theirs = socket.socketpair()
+    theirs.sendall(text)
     ours.send(b"unread")
     theirs.close()
     return ours.detach()
@@ -78,16 +82,26 @@ def fed_input(user: Optional[int], feeding: Callable[..., None], *arguments: Any
     return ours
 
 
+def file_of(text: bytes) -> int:
+    """Returns a regular file with a text, at its start. It has no name."""
+    file = os.open(tempfile.gettempdir(), os.O_RDWR | os.O_TMPFILE)
+    os.write(file, text)
+    os.lseek(file, 0, os.SEEK_SET)
+    return file
+
+
 def input_of(kind: str, text: bytes, folder: Path, user: Optional[int]) -> int:
     """Returns standard input: a descriptor, or PIPE. The kinds are those of `Conditions.stdin`."""
     if kind == "failing":
         return failing_input(text)
     if kind == "reset":
-        return reset_input()
+        return reset_input(text)
     if kind in LONG:
         return fed_input(user, feed, *LONG[kind])
     if kind == "slow":
         return fed_input(user, feed_slowly, text)
+    if kind == "file":
+        return file_of(text)
     return os.open(folder, os.O_RDONLY) if kind == "directory" else subprocess.PIPE
 
 

@@ -12,7 +12,7 @@ error code of the programs that is not named in NOT_RUN.
 With --linked it runs the programs as they are installed: linked with the heap of capi/heap.c by
 packaging/build-programs.
 
-With --cut it runs the cases of `jseg -d` and `jseg --sample` alone, by a kumquatsieve-cut in place
+With --pjseg it runs the cases of `jseg -d` and `jseg --sample` alone, by a pjseg in place
 of jseg, with one thread and with three. An image takes the place of the sample.
 
 Needs gcc, and crates/dictc/out/dictc and crates/jseg/out/jseg, which `rt run` in their directories
@@ -72,8 +72,8 @@ def parse_options() -> argparse.Namespace:
     parser.add_argument("--jseg", type=Path, default=program("jseg"))
     linked = "link dictc and jseg as they are installed, and run these"
     parser.add_argument("--linked", action="store_true", help=linked)
-    cut = "run the cases of `jseg -d` and `--sample` by this program"
-    parser.add_argument("--cut", type=Path, metavar="PROGRAM", help=cut)
+    of_pjseg = "run the cases of `jseg -d` and `--sample` by this program"
+    parser.add_argument("--pjseg", type=Path, metavar="PROGRAM", help=of_pjseg)
     return parser.parse_args()
 
 
@@ -95,16 +95,16 @@ def run_cases(options: argparse.Namespace, folder: Path) -> List[str]:
     if options.linked:
         link(options, folder / "linked")
     failures: List[str] = []
-    if not options.cut:
+    if not options.pjseg:
         failures += [*code_failures(), *interactive_failures(options.jseg)]
-    runner = CaseRunner(folder, Programs(folder, [options.dictc, options.cut or options.jseg]))
+    runner = CaseRunner(folder, Programs(folder, [options.dictc, options.pjseg or options.jseg]))
     runner.prepare()
-    cases = pjseg_cases() if options.cut else CASES
+    cases = pjseg_cases() if options.pjseg else CASES
     cases = [case for case in cases if options.only in f"{case.name} {case.command}"]
     for case in cases:
         for failure in runner.failures(case):
             failures.append(f"{case.name}: `{case.command[:200]}` {failure}")
-    for code, reason in [] if options.cut else NOT_RUN.items():
+    for code, reason in [] if options.pjseg else NOT_RUN.items():
         print(f"not run: {code}, because {reason}")
     print(f"cli: {len(cases)} cases, {len(failures)} failures")
     return failures
@@ -112,7 +112,7 @@ def run_cases(options: argparse.Namespace, folder: Path) -> List[str]:
 
 def main() -> int:
     options = parse_options()
-    paths = (options.dictc, options.cut or options.jseg)
+    paths = (options.dictc, options.pjseg or options.jseg)
     missing = [str(path) for path in paths if not path.exists()]
     if missing:
         how = "`rt run` in the crate's directory builds it"

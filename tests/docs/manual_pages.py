@@ -3,11 +3,11 @@
 
 mandoc's lint has to accept each page without a message. The page of each program has to name
 exactly the options that the program's `--help` names, with those of its subcommands. That of
-kumquatsieve-cut is compared by `tests/pjseg/run.py`.
+pjseg is compared by `tests/pjseg/run.py`.
 
 What bash and zsh complete is checked with the tables of tests/cli/completion: the options and
 subcommands that `--help` lists, and no others, and the values of each argument. For
-kumquatsieve-cut the options are those of the page. On a terminal, names of images are put into a
+pjseg the options are those of the page. On a terminal, names of images are put into a
 line so that the shell reads them as names. The status is 1 if one differs.
 
 Needs: crates/dictc/out/dictc and crates/jseg/out/jseg, which `rt run` in their folders leaves,
@@ -36,7 +36,7 @@ HELPS = {
     IMPORTER.name: [["--help"]],
 }
 # Its options are those of its page, since it is not built here.
-NOT_BUILT = "kumquatsieve-cut"
+NOT_BUILT = "pjseg"
 
 
 def lint_messages() -> Iterator[str]:

@@ -5,11 +5,13 @@
                           kit's maps use by default, beside as many lines with other features; the
                           surfaces and the lengths are the same
     matrix.def of a line  numbers without a line feed, beside rows
-    a row of blanks       a row with blanks after it and no line feed, beside rows, each in 16 MiB
-                          of memory
-    a row of zeros        a row with zeros before its cost, in 16 MiB
-    a row of digits       a row whose cost has digits without end, which is rejected, in 16 MiB
-    a row of words        a row of numbers without end, which is rejected, in 16 MiB
+    matrix.def of a zero  zeros without a line feed, beside rows
+    a row of blanks       a row with blanks after it and no line feed, in 16 MiB of memory and twice
+                          its length, beside rows in 16 MiB
+    a row of zeros        a row with zeros before its cost, in as much memory
+    a row of digits       a row whose cost has digits without end, which is rejected, in as much
+                          memory
+    a row of words        a row of numbers without end, which is rejected, in as much memory
     nested mappings       a char.def of ranges that contain each other, beside one of single
                           characters, both of 500,000 lines
 
@@ -47,7 +49,7 @@ def main() -> int:
         folder = Path(made)
         cases = [
             colliding_features(options, folder),
-            one_line(options, folder),
+            *one_line(options, folder),
             *long_rows(options, folder),
             nested_mappings(options, folder),
         ]

@@ -58,7 +58,7 @@ def parsed_options() -> argparse.Namespace:
         "--install", action="store_true", help="install what is needed first, by apt-get"
     )
     parser.add_argument(
-        "--built", action="store_true", help="use the archive in crates/cutter_c/out as it is"
+        "--built", action="store_true", help="use the archive in crates/capi/out as it is"
     )
     parser.add_argument("--lines", type=int, default=10_000, help="the number of lines")
     return parser.parse_args()

@@ -38,7 +38,7 @@ MODULES = [
     Module("source_tests", "of_double_array::grown_cells", ["refused_growth_keeps_the_cells"]),
     Module(
         "source_tests",
-        "of_lex_source::refused",
+        "of_lex_source::rejected",
         [
             "refused_lexicon_adds_no_records",
             "refused_lexicon_at_fault",
@@ -48,22 +48,26 @@ MODULES = [
             "refused_field_keeps_what_stands_before",
         ],
     ),
-    Module("source_tests", "of_matrix_def::refused", ["refused_matrix", "refused_matrix_at_fault"]),
     Module(
         "source_tests",
-        "of_char_def::refused",
+        "of_matrix_def::rejected",
+        ["refused_matrix", "refused_matrix_in_halves", "refused_matrix_at_fault"],
+    ),
+    Module(
+        "source_tests",
+        "of_char_def::rejected",
         ["refused_tables", "refused_chars", "refused_chars_at_fault"],
     ),
     Module(
         "dictionary_tests",
-        "of_dict_compile::starved",
+        "of_dict_compile::out_of_memory",
         ["starved_system_dictionary", "starved_user_dictionary"],
     ),
-    Module("dictionary_tests", "of_dict_image::starved", ["starved_user_images"]),
-    Module("search_tests", "of_word_lookup::starved", ["starved_words"]),
-    Module("search_tests", "of_lattice::starved", ["starved_search"]),
-    Module("text_tests", "of_out_format::starved", ["starved_formats"]),
-    Module("text_tests", "of_segmenter::starved", ["starved_runs", "starved_sources"]),
+    Module("dictionary_tests", "of_dict_image::out_of_memory", ["starved_user_images"]),
+    Module("search_tests", "of_word_lookup::out_of_memory", ["starved_words"]),
+    Module("search_tests", "of_lattice::out_of_memory", ["starved_search"]),
+    Module("text_tests", "of_out_format::out_of_memory", ["starved_formats"]),
+    Module("text_tests", "of_segmenter::out_of_memory", ["starved_runs", "starved_sources"]),
 ]
 
 

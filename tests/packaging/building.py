@@ -11,7 +11,7 @@ from support.running import TOP, program
 BUILD_LIBRARY, BUILD_PROGRAMS, INSTALL = (
     TOP / "packaging" / name for name in ("build-library", "build-programs", "install")
 )
-LIBRARIES = ("lib/libkumquatsieve.so.0", "lib/kumquatsieve/mecab/libmecab.so.2")
+LIBRARIES = ("lib/libkumquatsieve.so.1", "lib/kumquatsieve/mecab/libmecab.so.2")
 PROGRAMS = ("dictc", "jseg")
 # Whether the objects are there that programs are linked from. `rt ci` leaves none of a crate that
 # passed in an earlier run.

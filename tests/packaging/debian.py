@@ -5,10 +5,10 @@
 
 The packages are those of packaging/package. The root folder is made of the packages that every
 Debian has, of others that are installed here, and of what they depend on (root.py), so dpkg checks
-dependencies. In it dictc compiles the sample, jseg and kumquatsieve-cut segment a line, the example
+dependencies. In it dictc compiles the sample, jseg and pjseg segment a line, the example
 in C is compiled and run, the example in Python is run, and MeCab's own program runs over both
 libraries, as update-alternatives chooses. So do a program that opens libmecab.so by its name, and a
-program of another user.
+program of another user. Databases of SQLite and PostgreSQL have the extensions.
 
 The installation changes no file that was there. The purge of kumquatsieve removes what was imported
 by name, and leaves what a user added, and MeCab's own library is chosen again. After the purge of
@@ -28,7 +28,9 @@ sys.dont_write_bytecode = True
 sys.path[:0] = [str(Path(__file__).resolve().parents[up]) for up in (0, 1)]
 from checking import IMAGE, IMAGES, expect, fail  # noqa: E402
 from debian_libmecab import CHOSEN, MECAB, check_libmecab, library_of  # noqa: E402
+from debian_postgresql import check_postgresql  # noqa: E402
 from debian_programs import check_c, check_programs, check_python  # noqa: E402
+from debian_sqlite import check_sqlite  # noqa: E402
 from root import Root, State, essential  # noqa: E402
 from support.running import LEFT_OUT, end_left_out, leave_out  # noqa: E402
 
@@ -45,11 +47,17 @@ class Case(NamedTuple):
 
 CASES: Dict[str, Case] = {
     "kumquatsieve": Case(("python3",), check_programs),
-    "libkumquatsieve0": Case((), None),
+    "libkumquatsieve1": Case((), None),
     "libkumquatsieve-dev": Case(("gcc", "libc6-dev", "pkg-config"), check_c),
     "python3-kumquatsieve": Case(("python3",), check_python),
+    "kumquatsieve-sqlite": Case(("sqlite3", "libutf8proc2"), check_sqlite),
+    "postgresql-15-kumquatsieve": Case(("postgresql-15",), check_postgresql),
     "kumquatsieve-libmecab": Case(("libmecab2", "mecab", "mecab-utils"), check_libmecab),
 }
+
+
+# The package of the programs, and the one that depends on it.
+WITH_PROGRAMS = ("python3-kumquatsieve", "kumquatsieve")
 
 
 def name_of(package: str) -> str:
@@ -99,8 +107,8 @@ def purge(root: Root, names: Sequence[str]) -> None:
         fail(f"dpkg --purge\n{done.stdout.decode()}")
 
 
-def purge_programs(root: Root, theirs: Optional[str]) -> None:
-    """Purges kumquatsieve while our libmecab is chosen.
+def purge_programs(root: Root, names: Sequence[str], theirs: Optional[str]) -> None:
+    """Purges kumquatsieve, and what depends on it, while our libmecab is chosen.
 
     MeCab's programs run over MeCab's own library then, whose file is `theirs`.
     """
@@ -108,7 +116,7 @@ def purge_programs(root: Root, theirs: Optional[str]) -> None:
     if not (images / "unidic.img").exists():
         fail("kumquatsieve-import unidic: no image of that name")
     root.run("cp", IMAGE, CHOSEN)
-    purge(root, ["kumquatsieve"])
+    purge(root, names)
     expect("what remains in the folder of images", ["sample.img"], os.listdir(images))
     shutil.rmtree(images)
     if theirs:
@@ -117,9 +125,10 @@ def purge_programs(root: Root, theirs: Optional[str]) -> None:
 
 def remove(root: Root, names: Sequence[str], before: State, theirs: Optional[str]) -> None:
     """Purges all packages. If our libmecab was chosen, MeCab's own is used again."""
-    if "kumquatsieve" in names:
-        purge_programs(root, theirs)
-    others = [name for name in names if name != "kumquatsieve"]
+    programs = [name for name in names if name in WITH_PROGRAMS]
+    if "kumquatsieve" in programs:
+        purge_programs(root, programs, theirs)
+    others = [name for name in names if name not in programs]
     if others:
         purge(root, others)
     shutil.rmtree(root.folder / "sources", ignore_errors=True)

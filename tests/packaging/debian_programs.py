@@ -11,7 +11,7 @@ from support.running import SAMPLE
 WITH_USER = "すもも ももも \n"
 # Where kumquatsieve-import finds the sources of a dictionary by the name `unidic`.
 UNIDIC = "usr/share/mecab/dic/unidic"
-PROGRAMS = ("jseg", "dictc", "kumquatsieve-cut", "kumquatsieve-import")
+PROGRAMS = ("jseg", "dictc", "pjseg", "kumquatsieve-import")
 
 
 def check_programs(root: Root) -> None:
@@ -21,7 +21,7 @@ def check_programs(root: Root) -> None:
     for name in ("matrix", "char", "unk"):
         definitions += [f"--{name}", f"/sources/{name}.def"]
     root.run("dictc", "system", *definitions, "--out", IMAGE, "/sources/lexicon.csv")
-    for program in ("jseg", "kumquatsieve-cut"):
+    for program in ("jseg", "pjseg"):
         expect(program, WAKATI, root.run(program, "-d", IMAGE, "-O", "wakati", text=LINE))
     (root.folder / "sources" / "user").write_text("ももも,1,1,1,名詞,ももも\n")
     root.run("dictc", "user", "--dic", IMAGE, "--out", "/tmp/user.img", "/sources/user")
@@ -95,17 +95,19 @@ def check_names(root: Root, has_proc: bool) -> None:
 
 def check_c(root: Root) -> None:
     """Compiles and runs the example in C, with the shared library and with the archive."""
-    source = "/usr/share/doc/libkumquatsieve-dev/examples/cut.c"
+    source = "/usr/share/doc/libkumquatsieve-dev/examples/words.c"
     flags = root.run("pkg-config", "--cflags", "--libs", "kumquatsieve").split()
-    root.run("gcc", source, *flags, "-o", "/tmp/cut")
-    expect("the example in C", PRINTED, root.run("/tmp/cut", IMAGE, text=LINE))
-    root.run("gcc", source, "-l:libkumquatsieve.a", "-o", "/tmp/cut")
-    expect("the example in C with the archive", PRINTED, root.run("/tmp/cut", IMAGE, text=LINE))
+    words = PRINTED.removesuffix("EOS\n")
+    root.run("gcc", source, *flags, "-o", "/tmp/words")
+    expect("the example in C", words, root.run("/tmp/words", IMAGE, LINE.rstrip("\n")))
+    root.run("gcc", source, "-l:libkumquatsieve.a", "-o", "/tmp/words")
+    printed = root.run("/tmp/words", "sample", LINE.rstrip("\n"))
+    expect("the example in C with the archive", words, printed)
 
 
 def check_python(root: Root) -> None:
     """Runs the example in Python, and compares the versions of the module and of its metadata."""
-    example = "/usr/share/doc/python3-kumquatsieve/examples/cut.py"
+    example = "/usr/share/doc/python3-kumquatsieve/examples/segment.py"
     expect("the example in Python", PRINTED, root.run("python3", example, IMAGE, text=LINE))
     code = (
         "import importlib.metadata, kumquatsieve; "

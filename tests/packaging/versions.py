@@ -3,7 +3,7 @@
 
     tests/packaging/versions.py
 
-These places are read where they are, so that a build can't fill them in.
+The sources themselves are read, so that a build can't fill them in.
 """
 import argparse
 import re
@@ -35,7 +35,7 @@ CASES = (
     ),
     Case(
         "number of the library",
-        "crates/cutter_c/src/version.rt",
+        "crates/capi/src/version.rt",
         r"^pub const VERSION_NUMBER: u32 = ([\d_]+);$",
         is_number=True,
     ),

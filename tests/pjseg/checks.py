@@ -156,4 +156,4 @@ def check_command_lines(setup: Setup) -> None:
 
 
 def check_cases_of_jseg(setup: Setup) -> None:
-    run([TOP / "tests" / "cli" / "run.py", "--dictc", setup.dictc, "--cut", setup.pjseg])
+    run([TOP / "tests" / "cli" / "run.py", "--dictc", setup.dictc, "--pjseg", setup.pjseg])

@@ -90,7 +90,7 @@ def check_valgrind(setup: Setup, text: bytes) -> None:
             fail("the user dictionary changes nothing")
     missing = [*VALGRIND, str(setup.pjseg), "-v", "-d", "nowhere"]
     done = subprocess.run(missing, capture_output=True, env=setup.with_names)
-    has_names = b"images there: " in done.stderr and b"system, user" in done.stderr
+    has_names = b"available images: " in done.stderr and b"system, user" in done.stderr
     if done.returncode != 3 or not has_names:
         fail(f"an image that is not found: status {done.returncode}, {done.stderr!r}")
 

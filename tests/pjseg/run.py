@@ -1,5 +1,5 @@
 #!/usr/bin/env python3
-"""Compares kumquatsieve-cut with jseg: the same bytes, the same error and the same status.
+"""Compares pjseg with jseg: the same bytes, the same error and the same status.
 
     tests/pjseg/run.py [--built] [--program PROGRAM]
 
@@ -8,10 +8,10 @@ images that have another checksum; with invalid lines in each piece of the text;
 in one way or another; and with standard streams that fail after some bytes. Then follows what jseg
 doesn't have: an input that stays open after an error, a reader that leaves, memory that doesn't
 grow with the text or its output, each allocation that fails in turn, threads that can't be created,
-valgrind, ThreadSanitizer, terminals, the command line and the manual page. `tests/cli/run.py --cut`
-runs the cases of jseg.
+valgrind, ThreadSanitizer, terminals, the command line and the manual page. `tests/cli/run.py
+--pjseg` runs the cases of jseg.
 
-With --built the archive in crates/cutter_c/out is used; dictc and jseg are those in crates/*/out.
+With --built the archive in crates/capi/out is used; dictc and jseg are those in crates/*/out.
 With --program nothing is built, that program is tested, and ThreadSanitizer is left out. Needs gcc
 and valgrind; if one is missing the status is 77, and nothing was run.
 """
@@ -32,7 +32,7 @@ def parse_options() -> argparse.Namespace:
     parser = argparse.ArgumentParser(
         description=__doc__, formatter_class=argparse.RawDescriptionHelpFormatter
     )
-    built = "use the archive in crates/cutter_c/out"
+    built = "use the archive in crates/capi/out"
     parser.add_argument("--built", action="store_true", help=built)
     parser.add_argument("--program", type=Path, help="test this program")
     parser.add_argument("--dictc", type=Path, default=program("dictc"))

@@ -139,7 +139,7 @@ class Setup:
         arguments += [self.images.get(option, option) for option in case.options]
         expected = self.outcome([self.jseg, *case.jseg, *arguments], case, text)
         for count in jobs:
-            command: Arguments = [self.pjseg, "-j", str(count), *case.cut, *arguments]
+            command: Arguments = [self.pjseg, "-j", str(count), *case.pjseg, *arguments]
             found = self.outcome(command, case, text)
             if found != expected:
                 fail(f"{case.what}, {count} threads: {found}, and jseg: {expected}")

@@ -1,35 +1,41 @@
-"""What is closed, copied and forked while threads cut."""
+"""Closing, copying and forking while threads segment; subinterpreters, garbage and the end."""
 import copy
 import gc
 import os
+import shutil
 import signal
+import subprocess
+import sys
 import threading
 import time
 import weakref
 
 import pytest
 
-from kumquatsieve import Cutter, Fault, Format
+from kumquatsieve import Dictionary, Format, KumquatsieveError, Segmenter
 
 LINE = "すもももも"
 WORDS = ["すもも", "もも"]
-# A line whose cut takes long enough for something else to come in between.
+# A line that takes long enough to segment that other calls can come in between.
 LONG = "z" * 1_000_000
 WAIT = 60
 
 CALLS = {
-    "cut": lambda cutter: cutter.cut(LINE),
-    "wakati": lambda cutter: cutter.wakati(LINE),
-    "lattice": lambda cutter: cutter.lattice(LINE),
-    "format": lambda cutter: cutter.format(LINE),
-    "set_grouping": lambda cutter: cutter.set_grouping(3),
-    "share": lambda cutter: cutter.share(),
+    "cut": lambda segmenter: segmenter.words(LINE),
+    "wakati": lambda segmenter: segmenter.wakati(LINE),
+    "lattice": lambda segmenter: segmenter.lattice(LINE),
+    "parse": lambda segmenter: segmenter.parse(LINE),
+    "call": lambda segmenter: segmenter(LINE),
+    "lines": lambda segmenter: next(segmenter.lines(LINE)),
+    "wakati_lines": lambda segmenter: next(segmenter.wakati_lines(LINE)),
+    "dictionary": lambda segmenter: segmenter.dictionary,
+    "share": lambda segmenter: segmenter.share(),
     "copy": copy.copy,
 }
 
 
 def started(call):
-    """Starts a thread that makes a call, which takes a while."""
+    """Starts a thread that makes a call, and waits until the call has started."""
     thread = threading.Thread(target=call)
     thread.start()
     time.sleep(0.02)
@@ -38,140 +44,178 @@ def started(call):
 
 @pytest.mark.parametrize("call", CALLS)
 def test_what_is_closed_says_so(system, call):
-    cutter = Cutter(system)
-    cutter.close()
-    cutter.close()
-    with pytest.raises(ValueError, match="the cutter is closed"):
-        CALLS[call](cutter)
+    segmenter = Segmenter(system)
+    segmenter.close()
+    segmenter.close()
+    with pytest.raises(ValueError, match="the segmenter is closed"):
+        CALLS[call](segmenter)
 
 
 def test_with_closes(system):
-    with Cutter(system) as cutter:
-        assert cutter.wakati(LINE) == WORDS
+    with Segmenter(system) as segmenter:
+        assert segmenter.wakati(LINE) == WORDS
     with pytest.raises(ValueError, match="closed"):
-        cutter.wakati(LINE)
+        segmenter.wakati(LINE)
 
 
 def test_with_closes_where_a_fault_leaves_it(system):
-    with pytest.raises(Fault):
-        with Cutter(system) as cutter:
-            cutter.cut("a\ud800")
+    with pytest.raises(KumquatsieveError):
+        with Segmenter(system, errors="strict") as segmenter:
+            segmenter.words("a\ud800")
     with pytest.raises(ValueError, match="closed"):
-        cutter.wakati(LINE)
+        segmenter.wakati(LINE)
 
 
-@pytest.mark.parametrize("call", [Cutter.wakati, Cutter.wakati_lines, Cutter.parse_lines])
-def test_close_waits_for_the_calls_that_run(system, call):
-    """While they do, this thread runs too."""
-    cutter, done = Cutter(system, format=Format("%m", eos="")), []
+@pytest.mark.parametrize("call", [Segmenter.wakati, Segmenter.wakati_lines, Segmenter.parse_lines])
+def test_calls_that_run_end_as_usual_after_a_close(system, call):
+    """`close` does not wait for them."""
+    segmenter, done = Segmenter(system, format=Format("%m", eos="")), []
     threads = [
-        started(lambda: done.append("".join(call(cutter, LONG)).replace(" ", ""))) for _ in range(2)
+        started(lambda: done.append("".join(call(segmenter, LONG)).replace(" ", "")))
+        for _ in range(2)
     ]
-    assert len(cutter._handles.running()) == 2
-    cutter.close()
-    assert cutter._handles.running() == []
+    segmenter.close()
+    assert done == [] and segmenter.closed
     for thread in threads:
         thread.join(WAIT)
-    assert done == [LONG, LONG] and cutter._handles._free == []
+    assert done == [LONG, LONG]
+    with pytest.raises(ValueError, match="closed"):
+        list(call(segmenter, LINE))
 
 
 def test_two_threads_close_at_once(system):
-    cutter = Cutter(system)
-    threads = [started(call) for call in (lambda: cutter.wakati(LONG), cutter.close, cutter.close)]
+    segmenter = Segmenter(system)
+    threads = [
+        started(call) for call in (lambda: segmenter.wakati(LONG), segmenter.close, segmenter.close)
+    ]
     for thread in threads:
         thread.join(WAIT)
     assert not any(thread.is_alive() for thread in threads)
 
 
 def test_closing_under_load_ends_each_thread(system):
-    cutter, found = Cutter(system), []
+    segmenter, found = Segmenter(system), []
 
     def cut():
         try:
-            while cutter.wakati(LINE) == WORDS:
+            while segmenter.wakati(LINE) == WORDS:
                 pass
         except ValueError as error:
             found.append(str(error))
 
     threads = [started(cut) for _ in range(4)]
-    cutter.close()
+    segmenter.close()
     for thread in threads:
         thread.join(WAIT)
-    assert found == ["the cutter is closed"] * 4
+    assert found == ["the segmenter is closed"] * 4
 
 
 def resident():
-    """The bytes of memory that this process has."""
+    """Returns the bytes of memory that this process has."""
     with open("/proc/self/statm") as file:
         return int(file.read().split()[1]) * os.sysconf("SC_PAGESIZE")
 
 
 def test_closing_during_cuts_gives_all_memory_back(system):
-    """A cut of this line takes more than 100 MB."""
+    """Segmenting this line takes more than 100 MB."""
     sizes = []
     for _ in range(8):
-        cutter = Cutter(system)
-        thread = started(lambda: cutter.wakati(LONG))
-        cutter.close()
+        segmenter = Segmenter(system)
+        thread = started(lambda: segmenter.wakati(LONG))
+        segmenter.close()
         thread.join(WAIT)
         sizes.append(resident())
     assert sizes[-1] - sizes[1] < 100_000_000
 
 
+def test_a_long_line_leaves_no_memory_behind(system):
+    """Segmenting this line takes more than 100 MB, which the segmenter does not keep."""
+    segmenter = Segmenter(system)
+    before = resident()
+    for call in (segmenter.words, segmenter.wakati, segmenter.parse):
+        call(LONG)
+    assert resident() - before < 60_000_000
+    assert segmenter.wakati(LINE) == WORDS
+
+
 def test_a_handler_of_signals_may_close_and_cut(system):
-    cutter, found = Cutter(system), []
+    segmenter, found = Segmenter(system), []
 
     def handle(*_):
-        found.append(cutter.wakati(LINE))
-        cutter.close()
+        found.append(segmenter.wakati(LINE))
+        segmenter.close()
 
     before = signal.signal(signal.SIGALRM, handle)
     try:
         signal.setitimer(signal.ITIMER_REAL, 0.01)
         with pytest.raises(ValueError, match="closed"):
             while True:
-                cutter.wakati(LINE)
+                segmenter.wakati(LINE)
     finally:
         signal.signal(signal.SIGALRM, before)
     assert found == [WORDS]
 
 
-@pytest.mark.parametrize("again", [Cutter.share, copy.copy, copy.deepcopy])
+@pytest.mark.parametrize("again", [Segmenter.share, copy.copy, copy.deepcopy])
 def test_a_copy_shares_the_dictionaries_and_is_closed_by_itself(system, user, again):
-    first = Cutter(system, [user], grouping=3)
+    first = Segmenter(system, [user], grouping=3)
     second = again(first)
     first.close()
     assert second.wakati(LINE) == [LINE]
-    assert second.wakati("abcdefgh") == Cutter(system, grouping=3).wakati("abcdefgh")
+    assert second.wakati("abcdefgh") == Segmenter(system, grouping=3).wakati("abcdefgh")
 
 
 def test_what_nobody_has_any_more_is_given_back(system):
-    cutter = Cutter(system)
-    cutter.wakati(LINE)
-    slots = [
-        weakref.ref(handle._slot) for handle in (cutter._handles._first, *cutter._handles._free)
-    ]
-    gone = weakref.ref(cutter)
-    del cutter
-    gc.collect()
+    segmenter = Segmenter(system)
+    segmenter.wakati(LINE)
+    gone = weakref.ref(segmenter)
+    del segmenter
     assert gone() is None
-    assert [slot() for slot in slots] == [None, None]
+
+
+class Linked(Segmenter):
+    """A caller's own subclass, whose objects may be in a cycle."""
+
+
+def test_a_cycle_is_collected(system):
+    segmenter = Linked(system)
+    words = segmenter.words(LINE)
+    segmenter.own, segmenter.words_of_it = segmenter, words
+    gone = weakref.ref(segmenter)
+    del segmenter
+    gc.collect()
+    assert gone() is None and words[0].fields == ("名詞", "すもも")
+
+
+def test_objects_share_a_dictionary(system, user):
+    """The same images by the same names are one object, as long as somebody has it."""
+    one = Segmenter(system, [user])
+    assert Segmenter(system, [user], grouping=3).dictionary is one.dictionary
+    assert Segmenter(system).dictionary is not one.dictionary
+    assert Dictionary(system, [user], fields=["kind"]) is not one.dictionary
+    assert Dictionary(system, [user]) is copy.deepcopy(one.dictionary) is one.dictionary
+
+
+def test_words_outlive_everything(system):
+    words = Segmenter(system, fields=["pos", "base_form"]).words("すもも zz")
+    gc.collect()
+    assert [(word.base_form, word.fields[0]) for word in words] == [("すもも", "名詞"), (None, "未知")]
+    assert repr(words[0]) == "<Word すもも 名詞,すもも 0:3 cost 100>"
 
 
 def test_what_nobody_has_any_more_gives_all_memory_back(system):
-    """The segmentation of this line takes more than 100 MB, and a traceback may have the last
-    reference to the handle."""
+    """Segmenting this line takes more than 100 MB, and a traceback may have the last reference."""
     sizes = []
     for _ in range(6):
-        assert Cutter(system).wakati(LONG)
-        with pytest.raises(Fault):
-            Cutter(system).wakati(LONG + "\ud800")
+        assert Segmenter(system).wakati(LONG)
+        with pytest.raises(KumquatsieveError):
+            Segmenter(system, errors="strict").wakati(LONG + "\ud800")
         sizes.append(resident())
     assert sizes[-1] - sizes[1] < 100_000_000
 
 
 def status_of(child):
-    """How a child ends, or None where it hangs."""
+    """Returns the exit code of a child, or None if it hangs."""
     end = time.monotonic() + WAIT
     while time.monotonic() < end:
         pid, status = os.waitpid(child, os.WNOHANG)
@@ -184,7 +228,7 @@ def status_of(child):
 
 
 def in_child(call):
-    """How a forked child ends that makes a call; 0 where it returns."""
+    """Returns the exit code of a forked child that makes a call. It is 0 if the call returns."""
     child = os.fork()
     if child == 0:
         try:
@@ -196,35 +240,35 @@ def in_child(call):
 
 
 def test_a_fork_during_cuts_leaves_a_child_that_cuts_and_closes(system):
-    cutter = Cutter(system)
+    segmenter = Segmenter(system)
     threads = [
-        started(lambda call=call: list(call(cutter, LONG)))
-        for call in (Cutter.wakati, Cutter.wakati_lines, Cutter.parse_lines)
+        started(lambda call=call: list(call(segmenter, LONG)))
+        for call in (Segmenter.wakati, Segmenter.wakati_lines, Segmenter.parse_lines)
     ]
 
     def cut_and_close():
-        assert cutter.wakati(LINE) == WORDS
-        assert list(cutter.share().wakati_lines(LINE)) == [" ".join(WORDS)]
-        cutter.close()
+        assert segmenter.wakati(LINE) == WORDS
+        assert list(segmenter.share().wakati_lines(LINE)) == [" ".join(WORDS)]
+        segmenter.close()
 
     assert in_child(cut_and_close) == 0
-    assert cutter.wakati(LINE) == WORDS
+    assert segmenter.wakati(LINE) == WORDS
     for thread in threads:
         thread.join(WAIT)
 
 
 def test_forks_under_load(system):
-    """Threads take and give handles all the time, and close copies, while the process forks."""
-    cutter, over = Cutter(system), threading.Event()
+    """Threads take and return handles all the time, and close copies, while the process forks."""
+    segmenter, over = Segmenter(system), threading.Event()
 
     def work():
         while not over.is_set():
-            with copy.copy(cutter) as other:
-                assert cutter.wakati(LINE) == other.wakati(LINE) == WORDS
+            with copy.copy(segmenter) as other:
+                assert segmenter.wakati(LINE) == other.wakati(LINE) == WORDS
 
     threads = [started(work) for _ in range(3)]
     try:
-        assert [in_child(lambda: CALLS["wakati"](cutter)) for _ in range(40)] == [0] * 40
+        assert [in_child(lambda: CALLS["wakati"](segmenter)) for _ in range(40)] == [0] * 40
     finally:
         over.set()
     for thread in threads:
@@ -232,15 +276,187 @@ def test_forks_under_load(system):
 
 
 def test_a_child_forked_in_a_call_of_its_own_thread(system):
-    """A handler of signals forks while its thread is about to cut."""
-    cutter, found = Cutter(system), []
+    """A signal handler forks while its thread is about to segment."""
+    segmenter, found = Segmenter(system), []
     before = signal.signal(
-        signal.SIGALRM, lambda *_: found.append(in_child(lambda: CALLS["cut"](cutter)))
+        signal.SIGALRM, lambda *_: found.append(in_child(lambda: CALLS["cut"](segmenter)))
     )
     try:
         signal.setitimer(signal.ITIMER_REAL, 0.01)
         while not found:
-            cutter.wakati(LINE)
+            segmenter.wakati(LINE)
     finally:
         signal.signal(signal.SIGALRM, before)
     assert found == [0]
+
+
+# Programs that end in another way than by returning.
+ENDS = {
+    "a thread that still segments": """
+import threading
+threading.Thread(target=segmenter.wakati, args=["z" * 4_000_000], daemon=True).start()
+""",
+    "a call at exit": """
+import atexit
+atexit.register(lambda: print(segmenter.wakati("もも")))
+""",
+    "a finalizer": """
+class Last:
+    def __del__(self, segmenter=segmenter):
+        print(segmenter.wakati("もも"))
+last = Last()
+last.cycle = last
+""",
+    "a finalizer of a global": """
+import builtins
+class Last:
+    def __init__(self): self.segmenter = segmenter
+    def __del__(self): print(self.segmenter.wakati("もも"))
+builtins.last = Last()
+""",
+    "words in a cycle": """
+words = segmenter.words("もも zz")
+words.append(words)
+""",
+    "a module that is imported again": """
+import sys
+for name in [name for name in sys.modules if name.startswith("kumquatsieve")]:
+    del sys.modules[name]
+import kumquatsieve as other
+words = segmenter.words("もも")
+assert other.Word is not type(words[0]) and other.Segmenter(sys.argv[1]).wakati("もも") == ["もも"]
+del segmenter
+print(words[0].fields and [words[0].surface])
+""",
+}
+
+
+@pytest.mark.parametrize("how", ENDS)
+def test_a_program_ends_well(system, how):
+    code = "import sys, kumquatsieve\nsegmenter = kumquatsieve.Segmenter(sys.argv[1])\n" + ENDS[how]
+    words = [sys.executable, "-X", "dev", "-c", code, system]
+    environment = {**os.environ, "PYTHONMALLOC": "debug", "PYTHONUTF8": "1"}
+    done = subprocess.run(words, capture_output=True, text=True, env=environment)
+    printed = "['もも']\n" if "print" in ENDS[how] else ""
+    assert (done.returncode, done.stdout, done.stderr) == (0, printed, "")
+
+
+# What each of many interpreters runs, and the program that starts them.
+IN_EACH = """
+from kumquatsieve import Segmenter, Word
+segmenter = Segmenter(image)
+for _ in range(1000):
+    words = segmenter.words("すもももも")
+    assert [word.fields for word in words] == [("名詞", "すもも"), ("名詞", "もも")]
+    assert isinstance(words[0], Word)
+"""
+INTERPRETERS = """
+import sys
+import threading
+import _xxsubinterpreters as interpreters
+code = f"image = {sys.argv[1]!r}; import sys; sys.path[:] = {sys.path!r}" + sys.argv[2]
+def run():
+    for _ in range(5):
+        number = interpreters.create()
+        interpreters.run_string(number, code)
+        interpreters.destroy(number)
+exec(code)
+threads = [threading.Thread(target=run) for _ in range(3)]
+for thread in threads: thread.start()
+for thread in threads: thread.join()
+exec(code)
+print("done")
+"""
+
+
+def test_each_interpreter_has_a_module_of_its_own(system):
+    pytest.importorskip("_xxsubinterpreters")
+    words = [sys.executable, "-c", INTERPRETERS, system, IN_EACH]
+    done = subprocess.run(words, capture_output=True, text=True)
+    assert (done.returncode, done.stdout, done.stderr) == (0, "done\n", "")
+
+
+# What runs under valgrind: each call, over texts of each kind, errors, pickles, and a close while
+# threads segment.
+EACH_CALL = """
+import copy, pickle, sys, threading
+from kumquatsieve import Dictionary, Format, KumquatsieveError, Segmenter
+system, user = sys.argv[1:]
+image, long = open(system, "rb").read(), "もも" * 400
+texts = ["すもももも zz", "", "\\n\\r\\n", "a\\ud800b\\ud842\\udfb7", "もも\\n" * 9, long]
+for images in ((system,), (system, [user]), (image, [user])):
+    segmenter = Segmenter(*images, fields=["pos", "base_form"], format=Format("%m,%H\\n"))
+    for text in texts:
+        words = segmenter(text)
+        assert pickle.loads(pickle.dumps(words)) == words and len({*words}) <= len(words)
+        [(word.pos, word.base_or_surface, word.fields, repr(word), word.cost) for word in words]
+        segmenter.wakati(text), segmenter.parse(text), dir(words[0]) if words else None
+        for call in (segmenter.lines, segmenter.wakati_lines, segmenter.parse_lines):
+            list(call([text])), list(call(text))
+        lattice = segmenter.lattice(text.split("\\n")[0][:9])
+        lattice.rivals(), lattice.explain(), lattice.to_dot(), lattice.to_svg()
+        assert pickle.loads(pickle.dumps(lattice.nodes)) == lattice.nodes
+        segmenter.dictionary.lookup(text[:9], prefixes=True), repr(segmenter.dictionary)
+    copy.deepcopy(segmenter).share().close()
+    list(segmenter.wakati_lines(b"\\xff\\n" * 99))
+calls = [
+    lambda: segmenter("a")[0].x,
+    lambda: Segmenter(system, format=Format("%q")),
+    lambda: Segmenter(system, format=Format("%m\\0")),
+    lambda: Segmenter(image[:99]),
+    lambda: Segmenter(user),
+    lambda: Segmenter("/none"),
+    lambda: segmenter(5),
+    lambda: segmenter(x=5),
+    lambda: Segmenter(system, errors="strict")("\\ud800"),
+    lambda: segmenter.lattice("a\\nb"),
+    lambda: Segmenter(system, fields=["cost"]),
+    lambda: Segmenter(system, grouping=1001),
+]
+for call in calls:
+    try:
+        call()
+    except (KumquatsieveError, AttributeError, TypeError, ValueError) as error:
+        str(error), pickle.dumps(error)
+    else:
+        raise SystemExit("no error")
+threads = [threading.Thread(target=segmenter.wakati, args=[long]) for _ in range(3)]
+[thread.start() for thread in threads]
+segmenter.close()
+[thread.join() for thread in threads]
+print("done")
+"""
+
+
+def test_valgrind_finds_no_error(system, user):
+    """Without Python's own allocator, so that each use of memory is checked."""
+    if not shutil.which("valgrind"):
+        pytest.skip("valgrind is not there")
+    words = ["valgrind", "-q", "--error-exitcode=9", sys.executable, "-c", EACH_CALL, system, user]
+    environment = {**os.environ, "PYTHONMALLOC": "malloc", "PYTHONUTF8": "1"}
+    done = subprocess.run(words, capture_output=True, text=True, env=environment, timeout=600)
+    assert (done.returncode, done.stdout) == (0, "done\n"), done.stderr
+
+
+FLAT = """
+import sys
+from kumquatsieve import Segmenter
+def size():
+    with open("/proc/self/statm") as file:
+        return 4096 * int(file.read().split()[1])
+segmenter = Segmenter(sys.argv[1])
+def work(calls):
+    for _ in range(calls):
+        words = segmenter.words("すもももも zz\\nもも")
+        words[1].fields, words[0].pos, segmenter.wakati("すもももも")
+        segmenter.parse("\\ud800もも")
+work(20_000)
+before = size()
+work(330_000)
+print(size() - before)
+"""
+
+
+def test_a_million_calls_leave_memory_as_it_was(system):
+    done = subprocess.run([sys.executable, "-c", FLAT, system], capture_output=True, text=True)
+    assert int(done.stdout) < 1_000_000, done.stderr

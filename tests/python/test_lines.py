@@ -1,17 +1,16 @@
-"""Many lines: of texts, of files, of iterables; cut at once, or as they come."""
+"""Many lines, of texts, of files or of iterables, segmented at once or as they are read."""
 import array
 import io
 import mmap
 import os
 import pickle
 import re
-import time
+import sys
 from pathlib import Path
 
 import pytest
 
-from kumquatsieve import Cutter, Fault, Format, _sources
-from kumquatsieve._texts import Encoder
+from kumquatsieve import Format, KumquatsieveError, Segmenter, _lines
 
 LINES = ["すもももも", "", " すもももも  zz", "もも"]
 TEXT = "".join(line + "\n" for line in LINES)
@@ -46,23 +45,26 @@ SOURCES = {
 }
 WAYS = {
     "lines": (
-        lambda cutter, source, **how: [
-            [word.surface for word in words] for words in cutter.lines(source, **how)
+        lambda segmenter, source, **how: [
+            [word.surface for word in words] for words in segmenter.lines(source, **how)
         ],
         SURFACES,
     ),
     "wakati_lines": (
-        lambda cutter, source, **how: list(cutter.wakati_lines(source, **how)),
+        lambda segmenter, source, **how: list(segmenter.wakati_lines(source, **how)),
         JOINED,
     ),
-    "parse_lines": (lambda cutter, source, **how: list(cutter.parse_lines(source, **how)), PRINTED),
+    "parse_lines": (
+        lambda segmenter, source, **how: list(segmenter.parse_lines(source, **how)),
+        PRINTED,
+    ),
 }
 BEGIN = {
-    "lines": Cutter.lines,
-    "wakati_lines": Cutter.wakati_lines,
-    "parse_lines": Cutter.parse_lines,
+    "lines": Segmenter.lines,
+    "wakati_lines": Segmenter.wakati_lines,
+    "parse_lines": Segmenter.parse_lines,
 }
-# Bytes that are no UTF-8. Their text is that of Python's decoder.
+# Bytes that are not UTF-8. Their text is that of Python's decoder.
 BAD = [
     b"\xff",
     b"\xe3\x81",
@@ -75,17 +77,17 @@ BAD = [
 
 
 @pytest.fixture(scope="module")
-def cutter(system):
-    return Cutter(system)
+def segmenter(system):
+    return Segmenter(system)
 
 
-@pytest.mark.parametrize("piece", [1, 2, 7, 1_000_000])
+@pytest.mark.parametrize("batch", [1, 2, 7, 1_000_000])
 @pytest.mark.parametrize("source", SOURCES)
 @pytest.mark.parametrize("way", WAYS)
-def test_each_source_gives_its_lines(cutter, monkeypatch, way, source, piece):
-    monkeypatch.setattr(_sources, "PIECE", piece)
+def test_each_source_gives_its_lines(segmenter, monkeypatch, way, source, batch):
+    monkeypatch.setattr(_lines, "BATCH", batch)
     call, wanted = WAYS[way]
-    assert call(cutter, SOURCES[source](TEXT)) == wanted
+    assert call(segmenter, SOURCES[source](TEXT)) == wanted
 
 
 # Texts without a line feed at the end, with carriage returns, with characters that end no line, and
@@ -102,86 +104,96 @@ ENDS = [
 
 @pytest.mark.parametrize("source", ["str", "bytes", "a file of bytes"])
 @pytest.mark.parametrize("text, joined", ENDS)
-def test_ends_of_lines(cutter, source, text, joined):
-    assert list(cutter.wakati_lines(SOURCES[source](text))) == joined
+def test_ends_of_lines(segmenter, source, text, joined):
+    assert list(segmenter.wakati_lines(SOURCES[source](text))) == joined
     assert [
-        " ".join(word.surface for word in words) for words in cutter.lines(SOURCES[source](text))
+        " ".join(word.surface for word in words) for words in segmenter.lines(SOURCES[source](text))
     ] == joined
 
 
 @pytest.mark.parametrize("way", WAYS)
 @pytest.mark.parametrize("source", ["str", "a file of bytes", "lines"])
-def test_what_is_before_a_fault_comes_first(cutter, way, source):
-    answers = BEGIN[way](cutter, SOURCES[source]("もも\nもも\n" + "a" * (2**20 + 1) + "\nもも\n"))
-    assert len([next(answers), next(answers)]) == 2
-    with pytest.raises(Fault, match="line 3: G4") as fault:
-        next(answers)
-    assert fault.value.place == 3
-    with pytest.raises(StopIteration):
-        next(answers)
+def test_a_line_of_any_length(segmenter, way, source):
+    """It is segmented in parts of at most a mebibyte, which join without a gap."""
+    long = "z" * (2**21 + 5) + "もも"
+    answers = list(BEGIN[way](segmenter, SOURCES[source](f"もも\n{long}\nもも\n")))
+    assert len(answers) == 3 and answers[0] == answers[2]
+    call, _ = WAYS[way]
+    assert call(segmenter, [long])[0] == call(segmenter, f"{long}\n")[0]
+    text = f"もも\n{long}\nもも\n"
+    words = segmenter.words(text)
+    assert "".join(word.surface for word in words[1:-1]) == long
+    assert all(text[word.start : word.end] == word.surface for word in words)
+    gaps = [two.start - one.end for one, two in zip(words, words[1:])]
+    assert (gaps[0], gaps[-1], set(gaps[1:-1])) == (1, 1, {0})
 
 
-@pytest.mark.parametrize("piece", [3, 1_000_000])
+@pytest.mark.parametrize("batch", [3, 1_000_000])
 @pytest.mark.parametrize("way", WAYS)
 @pytest.mark.parametrize("bad", BAD)
-def test_what_is_no_utf_8_is_rejected_or_replaced(cutter, monkeypatch, way, bad, piece):
-    monkeypatch.setattr(_sources, "PIECE", piece)
+def test_what_is_no_utf_8_is_rejected_or_replaced(segmenter, monkeypatch, way, bad, batch):
+    monkeypatch.setattr(_lines, "BATCH", batch)
     text, call = b"a\n" + bad + b"\nb\n", BEGIN[way]
-    answers = call(cutter, io.BytesIO(text))
+    answers = call(segmenter, io.BytesIO(text), errors="strict")
     next(answers)
-    with pytest.raises(Fault, match="line 2: G3"):
+    with pytest.raises(ValueError, match="line 2: .*not UTF-8") as error:
         next(answers)
-    answers = call(cutter, io.BytesIO(text), errors="replace")
+    assert (error.value.code, error.value.line) == ("G3", 2)
+    assert error.value.position == (1 if bad[:1] in (b"a", b"\xef") else 0)
+    with pytest.raises(StopIteration):
+        next(answers)
     mended = text.decode("utf-8", "replace")
-    assert list(answers) == list(call(cutter, mended))
-    assert answers.replaced == mended.count("\ufffd") - text.count("\ufffd".encode())
+    for errors in (None, "replace"):
+        answers = call(segmenter, io.BytesIO(text), errors=errors)
+        assert list(answers) == list(call(segmenter, mended))
+        assert answers.replaced == mended.count("\ufffd") - text.count("\ufffd".encode())
 
 
 @pytest.mark.parametrize("source", [lambda text: text, io.StringIO, lambda text: [text]])
 @pytest.mark.parametrize("way", WAYS)
-def test_half_of_a_pair_is_rejected_or_replaced(cutter, way, source):
-    with pytest.raises(Fault, match="line 1: G3"):
-        next(BEGIN[way](cutter, source("a\udc80b\ud800")))
-    answers = BEGIN[way](cutter, source("a\udc80b\ud800"), errors="replace")
-    assert list(answers) == list(BEGIN[way](cutter, "a\ufffdb\ufffd"))
+def test_half_of_a_pair_is_rejected_or_replaced(segmenter, way, source):
+    with pytest.raises(ValueError, match="line 1: ") as error:
+        next(BEGIN[way](segmenter, source("a\udc80b\ud800"), errors="strict"))
+    assert error.value.position == 1
+    answers = BEGIN[way](segmenter, source("a\udc80b\ud800"))
+    assert list(answers) == list(BEGIN[way](segmenter, "a\ufffdb\ufffd"))
     assert answers.replaced == 2
+    answers = BEGIN[way](segmenter, source("\ud842\udfb7"))
+    assert list(answers) == list(BEGIN[way](segmenter, "𠮷")) and answers.replaced == 0
 
 
 @pytest.mark.parametrize("way", WAYS)
-def test_errors_has_two_values(cutter, way):
-    with pytest.raises(ValueError, match="strict or replace, not 'ignore'"):
-        BEGIN[way](cutter, TEXT, errors="ignore")
+def test_errors_is_the_segmenters_by_default(system, way):
+    with pytest.raises(ValueError, match="line 1"):
+        next(BEGIN[way](Segmenter(system, errors="strict"), b"\xff"))
+
+
+@pytest.mark.parametrize("way", WAYS)
+def test_errors_has_two_values(segmenter, way):
+    with pytest.raises(ValueError, match="replace or strict, not 'ignore'"):
+        BEGIN[way](segmenter, TEXT, errors="ignore")
 
 
 @pytest.mark.parametrize("bad", [None, float("nan"), 3, ["もも"]])
 @pytest.mark.parametrize("way", WAYS)
-def test_what_is_no_line_is_named(cutter, way, bad):
-    """As a missing value in a column of pandas'."""
-    answers = BEGIN[way](cutter, ["もも", bad, "もも"])
+def test_what_is_no_line_is_named(segmenter, way, bad):
+    """An example is a missing value in a column of pandas."""
+    answers = BEGIN[way](segmenter, ["もも", bad, "もも"])
     next(answers)
     with pytest.raises(
-        TypeError, match=f"line 2: a line is a str or bytes, not {type(bad).__name__}"
+        TypeError, match=f"line 2: a line must be a str or bytes, not {type(bad).__name__}"
     ):
         next(answers)
 
 
 @pytest.mark.parametrize("source", [None, 3, Path("text.txt"), object()])
 @pytest.mark.parametrize("way", WAYS)
-def test_what_is_no_source_is_named_at_once(cutter, way, source):
+def test_what_is_no_source_is_named_at_once(segmenter, way, source):
     with pytest.raises(
-        TypeError, match=f"a source is a text, an open file or lines, not {type(source).__name__}"
+        TypeError,
+        match=f"a source must be a text, an open file or lines, not {type(source).__name__}",
     ):
-        BEGIN[way](cutter, source)
-
-
-class Reads:
-    """A file of which each read gives the next of some things, and then nothing."""
-
-    def __init__(self, *things):
-        self.things = list(things)
-
-    def read(self, _):
-        return self.things.pop(0) if self.things else b""
+        BEGIN[way](segmenter, source)
 
 
 class LongBytes(bytes):
@@ -207,7 +219,7 @@ class LongArray(bytearray):
 
 
 class LongText(str):
-    """A text whose methods lie."""
+    """A str whose methods lie."""
 
     __len__, __getitem__, __str__ = LongBytes.__len__, LongBytes.__getitem__, LongBytes.__bytes__
     split = replace = endswith = encode = None
@@ -238,86 +250,142 @@ READ = [
 ]
 
 
-@pytest.mark.parametrize("piece", [6, 1_000_000])
+class Reads:
+    """A file of which each read returns the next one of some things, and then nothing."""
+
+    def __init__(self, *things):
+        self.things = list(things)
+
+    def read(self, _):
+        return self.things.pop(0) if self.things else b""
+
+
+@pytest.mark.parametrize("batch", [6, 1_000_000])
 @pytest.mark.parametrize("what", LYING)
 @pytest.mark.parametrize("way", WAYS)
-def test_a_source_is_what_it_has_and_not_what_it_says(cutter, monkeypatch, way, what, piece):
-    """What an object says of its length is nothing that C may read."""
-    monkeypatch.setattr(_sources, "PIECE", piece)
+def test_a_source_is_what_it_has_and_not_what_it_says(segmenter, monkeypatch, way, what, batch):
+    """C must not rely on the length that an object reports."""
+    monkeypatch.setattr(_lines, "BATCH", batch)
     call, wanted = WAYS[way]
-    for how in ({}, {"errors": "replace"}):
-        assert call(cutter, LYING[what], **how) == wanted
+    for how in ({}, {"errors": "replace"}, {"errors": "strict"}):
+        assert call(segmenter, LYING[what], **how) == wanted
 
 
 @pytest.mark.parametrize("kind", READ)
 @pytest.mark.parametrize("way", WAYS)
-def test_what_is_read_is_what_it_has_and_not_what_it_says(cutter, way, kind):
+def test_what_is_read_is_what_it_has_and_not_what_it_says(segmenter, way, kind):
     call, wanted = WAYS[way]
-    assert call(cutter, Reads(*(kind(line.encode() + b"\n") for line in LINES))) == wanted
+    assert call(segmenter, Reads(*(kind(line.encode() + b"\n") for line in LINES))) == wanted
 
 
-@pytest.mark.parametrize("bad", [5, 0, 10**12, True, 1.5, [b"a"], object()])
+@pytest.mark.parametrize(
+    "bad", [5, 0, 10**12, True, 1.5, [b"a"], object(), array.array("I", [5])]
+)
 @pytest.mark.parametrize("way", WAYS)
-def test_what_a_read_may_not_give_is_named(cutter, way, bad):
-    """A number is no bytes, which `bytes` makes of it."""
-    answers = BEGIN[way](cutter, Reads(b"ab\n", bad))
-    next(answers)
-    with pytest.raises(TypeError, match=f"gives a str or bytes, not {type(bad).__name__}"):
+def test_what_a_read_may_not_return_is_named(segmenter, way, bad):
+    """A number is not bytes, although `bytes` accepts it."""
+    answers = BEGIN[way](segmenter, Reads(b"ab\n", bad))
+    if way == "lines":
         next(answers)
+    with pytest.raises(TypeError, match=f"must return bytes, not {type(bad).__name__}"):
+        list(answers)
+    with pytest.raises(TypeError, match=f"must return str or bytes, not {type(bad).__name__}"):
+        next(BEGIN[way](segmenter, Reads(bad)))
 
 
 @pytest.mark.parametrize("first, second, last", [("ab\n", b"ab\n", b""), (b"ab\n", "ab\n", "")])
 @pytest.mark.parametrize("way", WAYS)
-def test_a_file_is_of_text_or_of_bytes(cutter, way, first, second, last):
-    answers = BEGIN[way](cutter, Reads(first, second))
+def test_a_file_is_of_text_or_of_bytes(segmenter, way, first, second, last):
+    answers = BEGIN[way](segmenter, Reads(first, second))
     next(answers)
-    kinds = f"gave {type(first).__name__}, and then {type(second).__name__}"
-    with pytest.raises(TypeError, match=kinds):
+    with pytest.raises(
+        TypeError, match=f"must return {type(first).__name__}, not {type(second).__name__}"
+    ):
         next(answers)
-    assert len(list(BEGIN[way](cutter, Reads(first, last, first)))) == 1
+    assert len(list(BEGIN[way](segmenter, Reads(first, last, first)))) == 1
 
 
-@pytest.mark.parametrize("line", [b"ab", None, 5, bytearray(b"ab")])
-@pytest.mark.parametrize("call", ["cut", "wakati", "parse", "format", "lattice"])
-def test_a_line_is_a_text(cutter, call, line):
-    with pytest.raises(TypeError, match=f"a line is a str, not {type(line).__name__}"):
-        getattr(cutter, call)(line)
+class OneByOne:
+    """A file of which each read returns one byte or one character."""
 
-
-class ByteByByte(io.BytesIO):
-    """A file of which each read gives a byte."""
+    def __init__(self, text):
+        self.text, self.at = text, 0
 
     def read(self, _):
-        return super().read(1)
+        self.at += 1
+        return self.text[self.at - 1 : self.at]
 
 
-class SignBySign(io.StringIO):
-    """A file of which each read gives a character."""
-
-    def read(self, _):
-        return super().read(1)
-
-
-def time_of(file):
-    """The processor's time that it takes to read a file."""
-    before = time.process_time()
-    assert sum(map(len, _sources.pieces(file, Encoder("strict"))))
-    return time.process_time() - before
+@pytest.mark.parametrize("text", [TEXT, TEXT.encode(), TEXT[:-1].encode()])
+@pytest.mark.parametrize("way", WAYS)
+def test_a_file_may_give_a_byte_at_a_time(segmenter, way, text):
+    call, wanted = WAYS[way]
+    assert call(segmenter, OneByOne(text)) == wanted
 
 
-@pytest.mark.parametrize("file, sign, end", [(ByteByByte, b"z", b"\n"), (SignBySign, "z", "\n")])
-def test_a_file_may_give_a_byte_at_a_time(file, sign, end):
-    """A byte of a long line takes about as long as one of short lines."""
-    assert time_of(file(sign * 500_000)) < 10 * time_of(file((sign * 99 + end) * 5000))
+def work_of(file):
+    """Returns how many bytes, characters and items the values have that `pieces` sets its variables
+    to while it reads a file, and what it yields."""
+    work, seen, code = 0, {}, _lines.pieces.__code__
+
+    def trace(frame, *_):
+        nonlocal work
+        if frame.f_code is not code:
+            return None
+        for name, value in frame.f_locals.items():
+            if isinstance(value, (str, bytes, list)) and seen.get(name) is not value:
+                work += len(value)
+            seen[name] = value
+        return trace
+
+    sys.settrace(trace)
+    try:
+        pieces = list(_lines.pieces(file))
+    finally:
+        sys.settrace(None)
+    return pieces, work
+
+
+@pytest.mark.parametrize("sign", [b"z", "z", "も"])
+def test_a_byte_of_a_long_line_takes_as_many_steps_as_one_of_a_short_line(sign):
+    """The time of a line is not the square of its length: what was read before is not copied at
+    each read."""
+    file = OneByOne(sign * 20_000)
+    pieces, work = work_of(file)
+    assert pieces == [sign * 20_000] and file.at == 20_001
+    assert work <= 4 * 20_000
+
+
+@pytest.mark.parametrize("bad", [5, 0, 10**12, True, 1.5, [b"a"], object()])
+@pytest.mark.parametrize("way", WAYS)
+def test_what_an_iterable_may_not_give_is_named(segmenter, way, bad):
+    """A number is not bytes, although `bytes` accepts it."""
+    answers = BEGIN[way](segmenter, [b"ab\n", bad])
+    next(answers)
+    with pytest.raises(TypeError, match=f"line 2: .* not {type(bad).__name__}"):
+        next(answers)
 
 
 @pytest.mark.parametrize("way", WAYS)
-def test_an_exception_of_the_source_follows_the_lines_before_it(cutter, way):
+def test_lines_may_be_of_text_and_of_bytes(segmenter, way):
+    first, second = BEGIN[way](segmenter, ["もも", "もも\r\n".encode()])
+    assert first == second
+
+
+@pytest.mark.parametrize("line", [b"ab", None, 5, bytearray(b"ab")])
+@pytest.mark.parametrize("call", ["words", "__call__", "wakati", "parse", "lattice"])
+def test_a_line_is_a_text(segmenter, call, line):
+    with pytest.raises(TypeError, match=f"a text must be a str, not {type(line).__name__}"):
+        getattr(segmenter, call)(line)
+
+
+@pytest.mark.parametrize("way", WAYS)
+def test_an_exception_of_the_source_follows_the_lines_before_it(segmenter, way):
     def source():
         yield from LINES[:2]
         raise OSError("the source's")
 
-    answers = BEGIN[way](cutter, source())
+    answers = BEGIN[way](segmenter, source())
     assert len([next(answers), next(answers)]) == 2
     with pytest.raises(OSError, match="the source's"):
         next(answers)
@@ -325,27 +393,69 @@ def test_an_exception_of_the_source_follows_the_lines_before_it(cutter, way):
         next(answers)
 
 
-@pytest.mark.parametrize("change", [bytearray.clear, lambda text: text.extend(text), bytearray.pop])
+CHANGES = [
+    bytearray.clear,
+    lambda text: text.extend(text),
+    bytearray.pop,
+    lambda text: text.__setitem__(slice(None), b"\xff" * len(text)),
+]
+
+
+@pytest.mark.parametrize("change", CHANGES)
 @pytest.mark.parametrize("way", WAYS)
-def test_a_text_that_changes_its_size_is_rejected(cutter, monkeypatch, way, change):
-    monkeypatch.setattr(_sources, "PIECE", 8)
-    text = bytearray(b"ab\n" * 10)
-    answers = BEGIN[way](cutter, text)
-    next(answers)
-    change(text)
-    with pytest.raises(RuntimeError, match="the bytearray changed its size while it was cut"):
-        list(answers)
+def test_a_text_that_changes_is_the_text_of_the_call(segmenter, monkeypatch, way, change):
+    monkeypatch.setattr(_lines, "BATCH", 8)
+    call, wanted = WAYS[way]
+    for kind in (bytearray, lambda text: memoryview(bytearray(text))):
+        text = kind(TEXT.encode())
+        answers, changed = BEGIN[way](segmenter, text), getattr(text, "obj", text)
+        first = next(answers)
+        if isinstance(text, memoryview):
+            text.release()
+        change(changed)
+        rest = WAYS[way][0](segmenter, TEXT)
+        assert [first, *answers] == [*BEGIN[way](segmenter, TEXT)] and rest == wanted
+        assert answers.replaced == 0
 
 
 @pytest.mark.parametrize("way", WAYS)
-def test_two_lines_for_one_are_rejected(cutter, way):
-    with pytest.raises(Fault, match="line 2: K1") as fault:
-        list(BEGIN[way](cutter, ["もも", "もも\nもも", "もも"]))
-    assert fault.value.at == 6
+def test_a_text_may_change_while_it_is_read(segmenter, way):
+    """The items of an iterable, too, are those of the moment when they come."""
+
+    def source():
+        line = bytearray()
+        for text in LINES:
+            line[:] = text.encode()
+            yield line
+
+    call, wanted = WAYS[way]
+    assert call(segmenter, source()) == wanted
 
 
-def test_lines_come_as_soon_as_they_are_there(cutter):
-    """Each answer is there before the next line is asked for, as for a terminal."""
+def test_a_reader_without_bytes_now(segmenter):
+    class Waiting(io.RawIOBase):
+        def read(self, *_):
+            return None
+
+    with pytest.raises(BlockingIOError):
+        next(segmenter.wakati_lines(Waiting()))
+
+
+@pytest.mark.parametrize("way", WAYS)
+def test_an_item_of_several_lines_is_one_result(segmenter, way):
+    """So a list of documents gives as many results."""
+    items = ["もも", "もも\nすもも\r\n\nもも", "", "\n", "もも\n"]
+    wanted = {
+        "lines": [["もも"], ["もも", "すもも", "もも"], [], [], ["もも"]],
+        "wakati_lines": ["もも", "もも すもも もも", "", "", "もも"],
+        "parse_lines": [segmenter.parse(item) for item in items],
+    }
+    assert WAYS[way][0](segmenter, items) == wanted[way]
+    assert WAYS[way][0](segmenter, [item.encode() for item in items]) == wanted[way]
+
+
+def test_lines_come_as_soon_as_they_are_there(segmenter):
+    """Each result is returned before the next line is read, as a terminal needs."""
     asked = []
 
     def source():
@@ -353,30 +463,21 @@ def test_lines_come_as_soon_as_they_are_there(cutter):
             asked.append(line)
             yield line
 
-    for number, _ in enumerate(cutter.lines(source()), 1):
+    for number, _ in enumerate(segmenter.lines(source()), 1):
         assert len(asked) == number
 
 
 @pytest.mark.parametrize("way", WAYS)
 def test_nothing_is_held_between_two_lines(system, monkeypatch, way):
-    """So a caller may close the cutter within the loop, which then says so."""
-    monkeypatch.setattr(_sources, "PIECE", 1)
-    cutter = Cutter(system)
-    answers = BEGIN[way](cutter, ["もも"] * 2)
+    """A caller may close the segmenter within the loop. The next iteration raises the error."""
+    monkeypatch.setattr(_lines, "BATCH", 1)
+    segmenter = Segmenter(system)
+    answers = BEGIN[way](segmenter, ["もも"] * 2)
     next(answers)
-    cutter.close()
+    segmenter.close()
     with pytest.raises(ValueError, match="closed"):
         for _ in answers:
             pass
-
-
-def test_a_reader_without_bytes_now(cutter):
-    class Waiting(io.RawIOBase):
-        def read(self, *_):
-            return None
-
-    with pytest.raises(BlockingIOError):
-        next(cutter.wakati_lines(Waiting()))
 
 
 FORMATS = [
@@ -385,20 +486,22 @@ FORMATS = [
     (Format("%m/%f[0] ", eos="\\n"), "すもも/名詞 もも/名詞 \n"),
     (Format("%m", unk="", bos="[", eos="]"), "[すもももも]"),
     (("%m,", None, "", ""), "すもも,もも,"),
+    (("%m,", None, None, None), "すもも,もも,EOS\n"),
+    (Format("%m", "?", "\\n", "."), "\nすもももも."),
 ]
 
 
 @pytest.mark.parametrize("format, printed", FORMATS)
-def test_the_cutters_format(system, format, printed):
-    first = Cutter(system, format=format)
-    for cutter in (first, first.share(), pickle.loads(pickle.dumps(first))):
-        assert cutter.wakati("すもももも\n") == ["すもも", "もも"]
-        assert cutter.parse("すもももも\n") == printed
-        assert list(cutter.parse_lines("すもももも\nすもももも")) == [printed, printed]
-        assert cutter.format("もも", "%m", eos="") == "もも"
+def test_the_segmenters_format(system, format, printed):
+    first = Segmenter(system, format=format)
+    for segmenter in (first, first.share(), pickle.loads(pickle.dumps(first))):
+        assert segmenter.wakati("すもももも\n") == ["すもも", "もも"]
+        assert segmenter.parse("すもももも\n") == printed
+        assert list(segmenter.parse_lines("すもももも\nすもももも")) == [printed, printed]
+        assert Segmenter(segmenter.dictionary, format=Format("%m", eos="")).parse("もも") == "もも"
 
 
-# What one call has for its format beside the line, and what it prints.
+# The options of the format for one call, and the output.
 PARTS = [
     ({}, PRINTED[0]),
     ({"eos": ""}, PRINTED[0][:-4]),
@@ -409,29 +512,34 @@ PARTS = [
 
 
 @pytest.mark.parametrize("parts, printed", PARTS)
-def test_each_part_of_a_calls_format_is_obeyed(cutter, parts, printed):
-    assert cutter.format("すもももも", **parts) == printed
+def test_each_part_of_a_format_is_obeyed(system, parts, printed):
+    assert Segmenter(system, format=Format(**parts)).parse("すもももも") == printed
 
 
-def test_a_part_for_unknown_words_alone(cutter):
-    assert cutter.format("もも zz", unk="?", eos="") == "もも\t名詞,もも\n?"
+def test_a_part_for_unknown_words_alone(system):
+    segmenter = Segmenter(system, format=Format(unk="?", eos=""))
+    assert segmenter.parse("もも zz") == "もも\t名詞,もも\n?"
 
 
-def test_formats_are_rejected_when_the_cutter_is_made(system):
-    with pytest.raises(Fault, match="P2 BadItem eos 1"):
-        Cutter(system, format=Format("%m", eos=".%q"))
+def test_formats_are_rejected_when_the_segmenter_is_made(system):
+    with pytest.raises(KumquatsieveError, match="P2"):
+        Segmenter(system, format=Format("%m", eos=".%q"))
     for format in ("chasen", 3, ("%m", "%m"), b"wakati"):
-        with pytest.raises(ValueError, match=f"{re.escape(repr(format))} is no format"):
-            Cutter(system, format=format)
-    for format in (Format(3), Format("%m", bos=None), Format("%m", eos=b"")):
-        with pytest.raises(TypeError, match="a format's text is a str, not (int|NoneType|bytes)"):
-            Cutter(system, format=format)
+        with pytest.raises(ValueError, match=f"{re.escape(repr(format))} is not a format"):
+            Segmenter(system, format=format)
+    for format in (Format(3), Format("%m", bos=1.5), Format("%m", eos=b"")):
+        with pytest.raises(
+            TypeError, match="a text of a format must be a str or None, not (int|float|bytes)"
+        ):
+            Segmenter(system, format=format)
 
 
-def test_many_lines_are_what_one_line_gives(cutter):
-    """Over more than a megabyte, so that it comes in parts."""
+def test_many_lines_are_what_one_line_gives(segmenter):
+    """The text has more than a megabyte, so that it is read in parts."""
     lines = [line * (number % 5) for number in range(30_000) for line in LINES]
     text = "\n".join(lines) + "\n"
     assert len(text.encode()) > 2_000_000
-    assert list(cutter.wakati_lines(text)) == [" ".join(cutter.wakati(line)) for line in lines]
-    assert "".join(cutter.parse_lines(io.StringIO(text))) == "".join(map(cutter.parse, lines))
+    assert list(segmenter.wakati_lines(text)) == [
+        " ".join(segmenter.wakati(line)) for line in lines
+    ]
+    assert "".join(segmenter.parse_lines(io.StringIO(text))) == "".join(map(segmenter.parse, lines))

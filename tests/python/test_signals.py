@@ -1,4 +1,4 @@
-"""Exceptions that handlers of signals raise, as Ctrl-C does, wherever they come."""
+"""Exceptions raised by signal handlers at any step, as by Ctrl-C."""
 import contextvars
 import os
 import random
@@ -11,39 +11,40 @@ from itertools import count
 import pytest
 
 import kumquatsieve
-from kumquatsieve import Cutter, Format
+from kumquatsieve import Format, Segmenter
 
-# A line whose words and whose output need longer buffers than a handle begins with.
 LINE = "すもももも" * 90
 WAIT = 60
 TIMES = 2000
 
-# Each call wants another format of the library than the one before it.
 CALLS = {
-    "cut": lambda cutter: [(word.surface, word.feature, word.total) for word in cutter.cut(LINE)],
-    "wakati": lambda cutter: cutter.wakati(LINE),
-    "lattice": lambda cutter: [
-        (node.surface, node.feature, node.through) for node in cutter.lattice(LINE[:5]).nodes
+    "cut": lambda segmenter: [
+        (word.surface, word.feature, word.total) for word in segmenter.words(LINE)
     ],
-    "parse": lambda cutter: cutter.parse(LINE),
-    "format": lambda cutter: cutter.format(LINE, "%m/"),
-    "wakati_lines": lambda cutter: list(cutter.wakati_lines(LINE)),
-    "parse_lines": lambda cutter: list(cutter.parse_lines(LINE)),
+    "wakati": lambda segmenter: segmenter.wakati(LINE),
+    "lattice": lambda segmenter: [
+        (node.surface, node.feature, node.through) for node in segmenter.lattice(LINE[:5]).nodes
+    ],
+    "parse": lambda segmenter: segmenter.parse(LINE),
+    "explain": lambda segmenter: segmenter.explain(LINE[:5]),
+    "lines": lambda segmenter: [len(words) for words in segmenter.lines([LINE, LINE])],
+    "wakati_lines": lambda segmenter: list(segmenter.wakati_lines(LINE)),
+    "parse_lines": lambda segmenter: list(segmenter.parse_lines(LINE)),
 }
-# The files with the steps of a call that change a state.
+# The files with the steps of a call in Python.
 FILES = {
     os.path.join(os.path.dirname(kumquatsieve.__file__), name)
-    for name in ("_cutter.py", "_handles.py", "_handle.py", "_buffers.py")
+    for name in ("_segmenter.py", "_lines.py", "_lattice.py", "_words.py", "_errors.py")
 }
 
 
 class Interrupt(BaseException):
-    """What a handler raises."""
+    """Raised by a signal handler."""
 
 
 @pytest.fixture(scope="module")
 def first(system):
-    return Cutter(system, format=Format("%m,", eos="."))
+    return Segmenter(system, format=Format("%m,", eos="."))
 
 
 @pytest.fixture(scope="module")
@@ -52,7 +53,7 @@ def answers(first):
 
 
 def interrupted(call, step):
-    """Raises before a step of a call in Python. Returns what the call raised, and None if it has
+    """Raises before a step of a call in Python. Returns what the call raised, or None if it has
     fewer steps."""
     steps = 0
 
@@ -77,7 +78,7 @@ def interrupted(call, step):
 
 
 def interrupt(call, times):
-    """Makes a call over and over, so often interrupted by a timer."""
+    """Repeats a call until a timer has interrupted it `times` times."""
     choose = random.Random(1)
 
     def stop(*_):
@@ -96,8 +97,8 @@ def interrupt(call, times):
         signal.signal(signal.SIGALRM, before)
 
 
-def is_closed_by_another_thread(cutter):
-    thread = threading.Thread(target=cutter.close, daemon=True)
+def is_closed_by_another_thread(segmenter):
+    thread = threading.Thread(target=segmenter.close, daemon=True)
     thread.start()
     thread.join(WAIT)
     return not thread.is_alive()
@@ -105,68 +106,69 @@ def is_closed_by_another_thread(cutter):
 
 @pytest.mark.parametrize("name", CALLS)
 def test_an_exception_before_any_step_leaves_nothing_behind(first, answers, name):
-    """Interrupts a call with a new handle, and then one between two calls with another format.
-
-    The other calls return what they always return, and `close` ends.
-    """
+    """The calls after it return what they always return, and `close` ends."""
     call, other = CALLS[name], "wakati" if name == "cut" else "cut"
     for step in count(1):
-        cutter = first.share()
-        new = interrupted(lambda: call(cutter), step)
-        assert call(cutter) == answers[name], step
-        assert CALLS[other](cutter) == answers[other], step
-        used = interrupted(lambda: call(cutter), step)
-        assert CALLS[other](cutter) == answers[other], step
-        assert is_closed_by_another_thread(cutter), step
+        segmenter = first.share()
+        new = interrupted(lambda: call(segmenter), step)
+        assert call(segmenter) == answers[name], step
+        assert CALLS[other](segmenter) == answers[other], step
+        used = interrupted(lambda: call(segmenter), step)
+        assert CALLS[other](segmenter) == answers[other], step
+        assert is_closed_by_another_thread(segmenter), step
         if new is used is None:
             break
 
 
 @pytest.mark.parametrize("name", CALLS)
 def test_a_timer_that_raises_leaves_nothing_behind(first, answers, name):
-    cutter = first.share()
-    interrupt(lambda: CALLS[name](cutter), TIMES)
+    segmenter = first.share()
+    interrupt(lambda: CALLS[name](segmenter), TIMES)
     for other, wanted in answers.items():
-        assert CALLS[other](cutter) == wanted
-    assert is_closed_by_another_thread(cutter)
-    assert cutter._handles.running() == []
+        assert CALLS[other](segmenter) == wanted
+    assert is_closed_by_another_thread(segmenter)
 
 
 def test_a_timer_that_raises_in_short_calls_leaves_nothing_behind(first):
-    cutter, wanted = first.share(), first.wakati("もも")
-    interrupt(lambda: cutter.wakati("もも"), 5 * TIMES)
-    assert cutter.wakati("もも") == wanted
-    assert is_closed_by_another_thread(cutter)
-    assert cutter._handles.running() == []
+    segmenter, wanted = first.share(), first.wakati("もも")
+    interrupt(lambda: segmenter.wakati("もも"), 5 * TIMES)
+    assert segmenter.wakati("もも") == wanted
+    assert is_closed_by_another_thread(segmenter)
 
 
-def test_an_exception_that_is_kept_keeps_nothing_waiting(first):
-    """Its frames have the handle."""
+def test_a_timer_ends_a_call_over_a_long_text(first):
+    """Signals are looked for between the lines. The segmenter is as before."""
+    text = "すもももも\n" * 1_000_000
+
+    def stop(*_):
+        raise Interrupt
+
+    before = signal.signal(signal.SIGALRM, stop)
+    try:
+        for call in (first.words, first.wakati):
+            signal.setitimer(signal.ITIMER_REAL, 0.1)
+            with pytest.raises(Interrupt):
+                call(text)
+    finally:
+        signal.signal(signal.SIGALRM, before)
+    assert first.wakati("すもももも") == ["すもも", "もも"]
+
+
+@pytest.mark.parametrize("name", ["lines", "wakati_lines", "lattice"])
+def test_an_exception_that_is_kept_keeps_nothing_waiting(first, answers, name):
+    """Its frames have the segmenter, and what the call had."""
     kept = []
     for step in count(1):
-        cutter = first.share()
-        kept.append(interrupted(lambda: cutter.wakati("もも"), step))
-        assert is_closed_by_another_thread(cutter), step
+        segmenter = first.share()
+        kept.append(interrupted(lambda: CALLS[name](segmenter), step))
+        assert is_closed_by_another_thread(segmenter), step
         if kept[-1] is None:
             break
+    assert len(kept) > 10 and CALLS[name](first) == answers[name]
 
 
-def test_a_close_before_any_step_of_which_an_exception_comes_is_made_again(first):
-    for step in count(1):
-        cutter = first.share()
-        cutter.wakati("もも")
-        handles = [cutter._handles._first, *cutter._handles._free]
-        error = interrupted(cutter.close, step)
-        cutter.close()
-        assert [handle._slot.held for handle in handles] == [False, False]
-        with pytest.raises(ValueError, match="closed"):
-            cutter.wakati("もも")
-        if error is None:
-            break
-
-
-def test_no_exception_is_lost_where_a_cutter_ends(first, monkeypatch):
-    """An exception in a destructor in Python would be lost, and the library's memory not freed."""
+def test_no_exception_is_lost_where_a_segmenter_ends(first, monkeypatch):
+    """An exception in a Python destructor would be lost, and the library's memory not freed."""
     lost = []
     monkeypatch.setattr(sys, "unraisablehook", lost.append)
 
@@ -194,7 +196,8 @@ def test_the_callers_context_is_seen_by_a_handler(first):
 
 
 def test_a_callers_context_is_not_kept(first):
-    """What a variable of it has goes with the caller, though the handle stays."""
+    """The value of a context variable is freed with the caller's context, though the handle
+    remains."""
 
     class Thing:
         pass

@@ -1,23 +1,29 @@
 #!/usr/bin/env python3
-"""Tests the rules of scripts/lint, scripts/wrap and tests/run, and the options of the scripts.
+"""Tests the rules of scripts/lint, scripts/wrap, scripts/mutants and tests/run, and the options of
+the scripts.
 
     tests/scripts/run.py
 """
 import argparse
 import importlib.machinery
 import importlib.util
+import os
 import subprocess
 import sys
+import tempfile
 from pathlib import Path
-from types import ModuleType
-from typing import Iterator
+from types import ModuleType, SimpleNamespace
+from typing import Iterator, List, Sequence, Tuple
 
 TOP = Path(__file__).resolve().parents[2]
 sys.dont_write_bytecode = True
 sys.path[:0] = [str(TOP / "scripts"), str(TOP / "tests")]
 from documents import exists, is_path, leads  # noqa: E402 (after the paths that lead to them)
+from edits import Mutant, Texts, mutant_of  # noqa: E402
+from scripts.recorded_checks import RECORDED  # noqa: E402
 from subjects import complaint  # noqa: E402
 from support.reported_cases import reported_cases  # noqa: E402
+from verdicts import Crate  # noqa: E402
 
 # A subject of a commit, and whether it is good.
 SUBJECTS = (
@@ -83,6 +89,15 @@ CHOSEN = (
     (("tests/packaging/lint PACKAGES/*.deb",), "packaging/wheel --built PACKAGES", False),
     (("tests/packaging/wheel PACKAGES/*.whl",), "packaging/wheel --built PACKAGES", True),
 )
+# The files of a crate.
+FILES = {"src/lib.rt": "fn f() {\n    1\n}\n\nfn g() {\n    2\n}\n", "proofs/f/A.antt": "c.one\n"}
+# A mutant of that crate, and the function that it changes.
+MUTANTS = (
+    ("file: src/lib.rt\nold: 1\nnew: 3\n", "f"),
+    ("file: src/lib.rt\nold: 1\nnew: 3\nfile: proofs/f/A.antt\nold: one\nnew: three\n", "f"),
+    ("file: src/lib.rt\nold: 1\nnew: 3\nold: 2\nnew: 4\n", ""),
+    ("file: proofs/f/A.antt\nold: one\nnew: three\n", ""),
+)
 LONG = "word " * 19 + "words"
 # Lines of Markdown, and the same wrapped.
 MARKDOWN = (
@@ -99,27 +114,26 @@ MARKDOWN = (
 )
 # The scripts, each of which has --help and rejects an unknown option.
 SCRIPTS = (
-    *(f"scripts/{path.name}" for path in sorted((TOP / "scripts").iterdir()) if not path.suffix),
-    "tests/run",
-    "tests/cli/all_paths.py",
-    "tests/cli/graphs.py",
-    "tests/docs/manual_pages.py",
-    "tests/docs/pictures.py",
-    "tests/importer/run.py",
-    "tests/packaging/builds.py",
-    "tests/packaging/debian.py",
-    "tests/packaging/fresh_clone",
-    "tests/packaging/lint",
-    "tests/packaging/wheel",
-    "tests/python/dask_clusters",
+    *(
+        str(path.relative_to(TOP))
+        for folder in ("scripts", "bench", "tests")
+        for path in sorted((TOP / folder).rglob("*"))
+        if path.is_file() and os.access(path, os.X_OK)
+    ),
     ".ci/run",
+    *(
+        f"packaging/{path.name}"
+        for path in sorted((TOP / "packaging").iterdir())
+        if not path.suffix and path.is_file()
+    ),
 )
 # The options, and the status of a script that gets one.
 OPTIONS = (("--help", 0), ("--no-such-option", 2))
-# The scripts, with each option. Those that tests/python/run does not know are pytest's.
+# The scripts, with each option. Some reject a file or a command that is not there.
 RUNS = (
     *((name, *option) for name in SCRIPTS for option in OPTIONS),
-    ("tests/python/run", "--help", 0),
+    *((f"scripts/{name}", "no-such-file", 2) for name in ("counts", "gate-times", "wrap")),
+    ("scripts/test", "no-such-word", 2),
 )
 
 
@@ -158,12 +172,52 @@ def errors_of_rules() -> Iterator[str]:
             yield f"Markdown {lines}: {list(wrapped(lines))}"
 
 
+class RecordedCrate(Crate):
+    """A crate whose checks print what was recorded."""
+
+    def __init__(self, folder: Path, outputs: Sequence[str]) -> None:
+        super().__init__(None, SimpleNamespace(name="work", folder=folder), folder)
+        self.outputs: List[str] = [*outputs]
+
+    def check(self, texts: Texts, symbols: Sequence[str] = ()) -> Tuple[int, str]:
+        output = self.outputs.pop(0)
+        return 1 if output else 0, output
+
+
+def errors_of_verdicts() -> Iterator[str]:
+    """Yields a message for each recorded check of a mutant that leads to another verdict."""
+    with tempfile.TemporaryDirectory() as folder:
+        answers = Path(folder) / "proofs" / "f" / "Answers.antt"
+        answers.parent.mkdir(parents=True)
+        for recorded in RECORDED:
+            answers.write_text(recorded.answers)
+            crate = RecordedCrate(Path(folder), recorded.outputs)
+            verdict = crate.judge_alone(Mutant("mutant", {}, None))
+            if verdict != recorded.verdict or crate.outputs:
+                yield f"verdict, {recorded.what}: {verdict}"
+
+
+def errors_of_places() -> Iterator[str]:
+    """Yields a message for each mutant of which another function is found."""
+    with tempfile.TemporaryDirectory() as folder:
+        edit = Path(folder) / "mutant.edit"
+        for path, text in FILES.items():
+            (Path(folder) / path).parent.mkdir(parents=True, exist_ok=True)
+            (Path(folder) / path).write_text(text)
+        for change, name in MUTANTS:
+            edit.write_text(change)
+            mutant, why = mutant_of(Path(folder), edit)
+            if why or (mutant.place.name if mutant.place else "") != name:
+                yield f"mutant {change!r}: {mutant.place}, '{why}'"
+
+
 def errors_of_options() -> Iterator[str]:
     """Yields a message for each script that lacks --help or takes an unknown option."""
     for name, option, expected in RUNS:
         done = subprocess.run([TOP / name, option], stdin=subprocess.DEVNULL, capture_output=True)
         output = done.stderr if expected else done.stdout
-        if done.returncode != expected or b"usage: " not in output.lower():
+        has_usage = b"usage: " in output.lower() or b"    " + name.encode() in output
+        if done.returncode != expected or not has_usage:
             yield f"{name} {option}: status {done.returncode}, {output[:200]!r}"
 
 
@@ -172,10 +226,15 @@ def main() -> int:
         description=__doc__, formatter_class=argparse.RawDescriptionHelpFormatter
     )
     arguments.parse_args()
-    found = [*errors_of_rules(), *errors_of_options()]
+    found = [
+        *errors_of_rules(),
+        *errors_of_verdicts(),
+        *errors_of_places(),
+        *errors_of_options(),
+    ]
     for error in found:
         print(f"scripts: {error}", file=sys.stderr)
-    tables = (SUBJECTS, PATHS, LINKS, OUTPUTS, CHOSEN, MARKDOWN, RUNS)
+    tables = (SUBJECTS, PATHS, LINKS, OUTPUTS, CHOSEN, MARKDOWN, RECORDED, MUTANTS, RUNS)
     print(f"{sum(map(len, tables))} cases of scripts, {len(found)} errors")
     return 1 if found else 0
 

@@ -11,7 +11,7 @@ SUPPORT = TOP / "tests" / "support"
 SAMPLE = TOP / "examples" / "sample"
 IMPORTER = TOP / "importer" / "kumquatsieve-import"
 # The static library that `rt lib` or scripts/build-archive leaves.
-ARCHIVE = TOP / "crates" / "cutter_c" / "out" / "libcutter_c.a"
+ARCHIVE = TOP / "crates" / "capi" / "out" / "libcapi.a"
 # The exit status of a test that was left out, in whole or in part, because a program is missing.
 LEFT_OUT = 77
 

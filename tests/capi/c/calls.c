@@ -1,251 +1,299 @@
-/* Tests each call of the library with each error that it can return: calls SYSTEM.img USER.img.
-   Both images are compiled from the sample. */
+/* Makes each call with each code that it can return but KUMQUATSIEVE_MEMORY, and with each NULL:
+   calls SYSTEM.img USER.img NOTHING.img. The first two are compiled from the sample, and the last
+   one does not exist. Each call fills the error with its code, and with a message if it fails. A
+   call that fails leaves all outputs unchanged, but for those that a row names. */
 #include "helpers.h"
 
-static uint64_t number;
-static uint32_t part;
-static size_t at, count, length;
-static int64_t total;
-static const uint8_t *kept;
-static uint8_t room[256];
-static kumquatsieve_word words[8];
-static kumquatsieve_node nodes[8];
+enum { UNSET = 0xaa, LONGEST = 1048576, ROOM = 4 };
 
-static uint32_t set_format(kumquatsieve_cutter *cutter, const char *node, const char *unk,
-                           const char *bos, const char *eos) {
-    return kumquatsieve_set_format(cutter, BYTES(node), strlen(node), BYTES(unk), strlen(unk),
-                                   BYTES(bos), strlen(bos), BYTES(eos), strlen(eos), &part, &at);
-}
-
-static void calls_of_an_empty_cutter(file user) {
-    kumquatsieve_cutter cutter = KUMQUATSIEVE_EMPTY, other = KUMQUATSIEVE_EMPTY;
-    CHECK(kumquatsieve_add_user(&cutter, user.bytes, user.length, &number) ==
-          KUMQUATSIEVE_EMPTY_CUTTER);
-    CHECK(kumquatsieve_share(&other, &cutter) == KUMQUATSIEVE_EMPTY_CUTTER && !other.held);
-    CHECK(set_format(&cutter, "", "", "", "") == KUMQUATSIEVE_EMPTY_CUTTER);
-    CHECK(kumquatsieve_set_grouping(&cutter, 24) == KUMQUATSIEVE_EMPTY_CUTTER);
-    CHECK(cut(&cutter, LINE) == KUMQUATSIEVE_EMPTY_CUTTER);
-    CHECK(kumquatsieve_cut_text(&cutter, BYTES("a"), 1, &count, &total, NULL) ==
-          KUMQUATSIEVE_EMPTY_CUTTER);
-    CHECK(kumquatsieve_words(&cutter, 0, words, 8, &count) == KUMQUATSIEVE_EMPTY_CUTTER);
-    CHECK(kumquatsieve_nodes(&cutter, 0, nodes, 8, &count) == KUMQUATSIEVE_EMPTY_CUTTER);
-    CHECK(kumquatsieve_entry_feature(&cutter, true, 0, 0, &kept, &length) ==
-          KUMQUATSIEVE_EMPTY_CUTTER);
-    CHECK(kumquatsieve_feature(&cutter, 0, &kept, &length) == KUMQUATSIEVE_EMPTY_CUTTER);
-    CHECK(kumquatsieve_features(&cutter, &kept, &length) == KUMQUATSIEVE_EMPTY_CUTTER);
-    CHECK(kumquatsieve_copy_feature(&cutter, 0, room, sizeof room, &length) ==
-          KUMQUATSIEVE_EMPTY_CUTTER);
-    CHECK(kumquatsieve_print(&cutter, &kept, &length) == KUMQUATSIEVE_EMPTY_CUTTER);
-    CHECK(kumquatsieve_copy_print(&cutter, room, sizeof room, &length) ==
-          KUMQUATSIEVE_EMPTY_CUTTER);
-    CHECK(kumquatsieve_cut_lines(&cutter, BYTES("a"), 1, &kept, &length, &number) ==
-          KUMQUATSIEVE_EMPTY_CUTTER);
-    kumquatsieve_free(&cutter);
-    kumquatsieve_free(&cutter);
-}
-
-static void refused_images(file system, file user) {
-    kumquatsieve_cutter cutter = KUMQUATSIEVE_EMPTY;
-    CHECK(kumquatsieve_load(&cutter, system.bytes, 0, &number) == KUMQUATSIEVE_TRUNCATED &&
-          !cutter.held);
-    CHECK(kumquatsieve_load(&cutter, user.bytes, user.length, &number) == KUMQUATSIEVE_NOT_SYSTEM &&
-          !cutter.held);
-    system.bytes[0] ^= 1;
-    CHECK(kumquatsieve_load(&cutter, system.bytes, system.length, &number) ==
-              KUMQUATSIEVE_BAD_MAGIC &&
-          !cutter.held);
-    system.bytes[0] ^= 1;
-    system.bytes[8] = 9;
-    CHECK(kumquatsieve_load(&cutter, system.bytes, system.length, &number) ==
-              KUMQUATSIEVE_BAD_LAYOUT &&
-          number == 9);
-    system.bytes[8] = 3;
-    system.bytes[system.length - 1] ^= 1;
-    CHECK(kumquatsieve_load(&cutter, system.bytes, system.length, &number) == KUMQUATSIEVE_DIGEST);
-    system.bytes[system.length - 1] ^= 1;
-    CHECK(kumquatsieve_load(&cutter, system.bytes, system.length, &number) == KUMQUATSIEVE_OK &&
-          cutter.held);
-    CHECK(kumquatsieve_load(&cutter, system.bytes, system.length, &number) ==
-              KUMQUATSIEVE_FULL_CUTTER &&
-          cutter.held);
-    CHECK(kumquatsieve_add_user(&cutter, system.bytes, system.length, &number) ==
-              KUMQUATSIEVE_NOT_USER &&
-          number == 0);
-    CHECK(cut(&cutter, LINE) == KUMQUATSIEVE_OK && prints(&cutter, PRINTED));
-    kumquatsieve_free(&cutter);
-}
-
-static void lines(kumquatsieve_cutter *cutter) {
-    static uint8_t long_line[1048577];
-    CHECK(kumquatsieve_words(cutter, 0, words, 8, &count) == KUMQUATSIEVE_NOTHING_CUT);
-    CHECK(kumquatsieve_nodes(cutter, 0, nodes, 8, &count) == KUMQUATSIEVE_NOTHING_CUT);
-    CHECK(kumquatsieve_print(cutter, &kept, &length) == KUMQUATSIEVE_NOTHING_CUT);
-    CHECK(kumquatsieve_features(cutter, &kept, &length) == KUMQUATSIEVE_NOTHING_CUT);
-    CHECK(cut(cutter, "a\n") == KUMQUATSIEVE_LINE_FEED);
-    CHECK(cut(cutter, "a\xff") == KUMQUATSIEVE_NOT_UTF8);
-    memset(long_line, 'a', sizeof long_line);
-    CHECK(kumquatsieve_cut(cutter, long_line, sizeof long_line, &count, &total, NULL) ==
-          KUMQUATSIEVE_TOO_LONG);
-    CHECK(kumquatsieve_cut_text(cutter, long_line, sizeof long_line, &count, &total, NULL) ==
-          KUMQUATSIEVE_TOO_LONG);
-    CHECK(kumquatsieve_cut_text(cutter, BYTES("a\xff"), 2, &count, &total, NULL) ==
-          KUMQUATSIEVE_NOT_UTF8);
-    CHECK(kumquatsieve_cut_text(cutter, BYTES(LINE "\n" LINE), 2 * strlen(LINE) + 1, &count, &total,
-                                NULL) == KUMQUATSIEVE_OK &&
-          count == 5);
-    CHECK(kumquatsieve_cut(cutter, BYTES(""), 0, &count, &total, NULL) == KUMQUATSIEVE_OK &&
-          count == 0);
-    CHECK(prints(cutter, "EOS\n"));
-    CHECK(kumquatsieve_cut(cutter, BYTES(LINE), strlen(LINE), &count, &total, NULL) ==
-              KUMQUATSIEVE_OK &&
-          count == 2);
-    CHECK(prints(cutter, PRINTED));
-}
-
-/* A text of several lines: the code, the number of its lines or of the invalid line, and the
- * output. */
-typedef struct text_row {
-    const char *what, *text;
-    uint32_t code;
+/* All outputs. */
+static struct outputs {
+    kumquatsieve_dictionary *dictionary;
+    kumquatsieve_info info;
+    kumquatsieve_word words[ROOM];
+    kumquatsieve_line line;
+    const kumquatsieve_word *lent_words;
+    const kumquatsieve_node *lent_nodes;
+    const char *text;
+    char path[4096];
+    size_t length, count;
     uint64_t lines;
-    const char *printed;
-} text_row;
+} out, before;
 
-static const text_row text_rows[] = {
-    {"an empty text", "", KUMQUATSIEVE_OK, 0, ""},
-    {"a line feed alone", "\n", KUMQUATSIEVE_OK, 1, "EOS\n"},
-    {"empty lines", "\n\n", KUMQUATSIEVE_OK, 2, "EOS\nEOS\n"},
-    {"blanks alone", "  \n ", KUMQUATSIEVE_OK, 2, "EOS\nEOS\n"},
-    {"CR LF: the CR is no blank", "\r\n\n", KUMQUATSIEVE_OK, 2, "\r\t未知\nEOS\nEOS\n"},
-    {"one line", LINE "\n", KUMQUATSIEVE_OK, 1, PRINTED},
-    {"two lines", LINE "\n" LINE "\n", KUMQUATSIEVE_OK, 2, PRINTED PRINTED},
-    {"no line feed at the end", "\n" LINE, KUMQUATSIEVE_OK, 2, "EOS\n" PRINTED},
-    {"CR LF: the CR is a character", "\r\n" LINE "\n", KUMQUATSIEVE_OK, 2,
-     "\r\t未知\nEOS\n" PRINTED},
-    {"bad UTF-8 in line 3", LINE "\n\na\xff\n" LINE "\n", KUMQUATSIEVE_NOT_UTF8, 3,
-     PRINTED "EOS\n"},
-    {"bad UTF-8 behind empty lines", "\n\na\xff\nb\n", KUMQUATSIEVE_NOT_UTF8, 3, "EOS\nEOS\n"},
-    {"bad UTF-8 in a last line behind an empty one", "\n\xff", KUMQUATSIEVE_NOT_UTF8, 2, "EOS\n"},
-    {"bad UTF-8 in a last line without a line feed", LINE "\na\xff", KUMQUATSIEVE_NOT_UTF8, 2,
-     PRINTED},
-};
+static kumquatsieve_error error;
+static kumquatsieve_segmenter full, empty, uncut;
+static kumquatsieve_dictionary *dictionary;
+static const kumquatsieve_word *word;
+static char long_line[LONGEST + 1];
+static size_t rows;
 
-static void text_lines(kumquatsieve_cutter *cutter) {
-    for (size_t i = 0; i < COUNT_OF(text_rows); i++) {
-        const text_row *row = &text_rows[i];
-        uint32_t code = kumquatsieve_cut_lines(cutter, BYTES(row->text), strlen(row->text), &kept,
-                                               &length, &number);
-        if (code != row->code || number != row->lines || !is_text(kept, length, row->printed)) {
-            fprintf(stderr, "text_lines: %s: %#x, %llu: %.*s\n", row->what, code,
-                    (unsigned long long)number, (int)length, (const char *)kept);
-            exit(1);
-        }
-        CHECK(kumquatsieve_print(cutter, &kept, &length) == KUMQUATSIEVE_NOTHING_CUT);
-    }
+static void prepare(void) {
+    memset(&out, UNSET, sizeof out);
+    memset(&before, UNSET, sizeof before);
+    memset(&error, UNSET, sizeof error);
 }
 
-/* A line that is one byte too long, after a line that is printed. */
-static void too_long_line(kumquatsieve_cutter *cutter) {
-    static uint8_t text[2 + 1048577 + 1];
-    memset(text, ' ', sizeof text);
-    text[1] = text[sizeof text - 1] = '\n';
-    CHECK(kumquatsieve_cut_lines(cutter, text, sizeof text, &kept, &length, &number) ==
-              KUMQUATSIEVE_TOO_LONG &&
-          number == 2);
-    CHECK(is_text(kept, length, "EOS\n"));
-    text[2] = '\n';
-    CHECK(kumquatsieve_cut_lines(cutter, text, sizeof text, &kept, &length, &number) ==
-              KUMQUATSIEVE_OK &&
-          number == 3);
-    CHECK(is_text(kept, length, "EOS\nEOS\nEOS\n"));
+/* Checks the error that a call filled, and that it set no output if it failed. */
+static void check_result(const char *what, uint32_t wanted, uint32_t code) {
+    CHECK_CASE(what, code == wanted && error.code == code);
+    CHECK_CASE(what, (code == KUMQUATSIEVE_OK) == (error.message[0] == 0));
+    CHECK_CASE(what, memchr(error.message, 0, sizeof error.message));
+    if (code != KUMQUATSIEVE_OK) CHECK_CASE(what, memcmp(&out, &before, sizeof out) == 0);
+    if (code == KUMQUATSIEVE_OK) CHECK_CASE(what, memcmp(&out, &before, sizeof out) != 0);
+    rows++;
 }
 
-static void the_words(kumquatsieve_cutter *cutter) {
-    CHECK(cut(cutter, " " LINE) == KUMQUATSIEVE_OK);
-    CHECK(kumquatsieve_words(cutter, 0, words, 8, &count) == KUMQUATSIEVE_OK && count == 2);
-    CHECK(words[0].place == 0 && words[0].start == 1 && words[0].end == 10 && words[0].known == 1 &&
-          words[0].dictionary == 0);
-    CHECK(words[1].place == 10 && words[1].start == 10 && words[1].end == 16);
-    CHECK(words[0].total == 110 && words[0].feature_length == strlen("名詞,すもも") &&
-          words[1].total == 147);
-    CHECK(kumquatsieve_words(cutter, 1, words, 1, &count) == KUMQUATSIEVE_OK && count == 2 &&
-          words[0].start == 10 && words[0].total == 147);
-    CHECK(kumquatsieve_words(cutter, 2, words, 1, &count) == KUMQUATSIEVE_OK && count == 2);
-    CHECK(kumquatsieve_feature(cutter, 1, &kept, &length) == KUMQUATSIEVE_OK &&
-          is_text(kept, length, "名詞,もも"));
-    CHECK(kumquatsieve_feature(cutter, 2, &kept, &length) == KUMQUATSIEVE_NO_WORD);
-    CHECK(kumquatsieve_features(cutter, &kept, &length) == KUMQUATSIEVE_OK);
-    CHECK(is_text(kept, length, "名詞,すもも名詞,もも"));
-    CHECK(kumquatsieve_copy_feature(cutter, 1, room, 3, &length) == KUMQUATSIEVE_SHORT_BUFFER &&
-          length == strlen("名詞,もも"));
-    CHECK(kumquatsieve_copy_feature(cutter, 1, room, sizeof room, &length) == KUMQUATSIEVE_OK &&
-          is_text(room, length, "名詞,もも"));
-    CHECK(kumquatsieve_copy_feature(cutter, 2, room, sizeof room, &length) == KUMQUATSIEVE_NO_WORD);
-    CHECK(kumquatsieve_copy_print(cutter, room, 3, &length) == KUMQUATSIEVE_SHORT_BUFFER &&
-          length == strlen(PRINTED));
-    CHECK(kumquatsieve_copy_print(cutter, room, sizeof room, &length) == KUMQUATSIEVE_OK &&
-          is_text(room, length, PRINTED));
+/* A call that sets outputs if it succeeds. */
+#define ROW(wanted, call)                                                                          \
+    do {                                                                                           \
+        prepare();                                                                                 \
+        check_result(#call, KUMQUATSIEVE_##wanted, call);                                          \
+    } while (0)
+
+/* A call without outputs, or with NULL for them. */
+#define PLAIN(wanted, call)                                                                        \
+    do {                                                                                           \
+        memset(&error, UNSET, sizeof error);                                                       \
+        uint32_t code = (call);                                                                    \
+        CHECK_CASE(#call, code == KUMQUATSIEVE_##wanted);                                          \
+        rows++;                                                                                    \
+    } while (0)
+
+static void opened(file system, file user, const char *nothing) {
+    const char *const users[] = {user.path, NULL};
+#define OPEN kumquatsieve_dictionary_open
+    ROW(OK, OPEN(&out.dictionary, system.path, users, 1, 0, &error));
+    kumquatsieve_dictionary_release(out.dictionary);
+    ROW(FILE, OPEN(&out.dictionary, nothing, NULL, 0, 0, &error));
+    ROW(FILE, OPEN(&out.dictionary, "no-such-name", NULL, 0, 0, &error));
+    ROW(NOT_SYSTEM, OPEN(&out.dictionary, user.path, NULL, 0, 0, &error));
+    ROW(BAD_ARGUMENT, OPEN(&out.dictionary, system.path, users, 1, 1u << 31, &error));
+    ROW(BAD_ARGUMENT, OPEN(&out.dictionary, system.path, users, 1, KUMQUATSIEVE_WHOLE, &error));
+    ROW(BAD_ARGUMENT, OPEN(&out.dictionary, system.path, users, 2, 0, &error));
+    ROW(BAD_ARGUMENT, OPEN(&out.dictionary, system.path, NULL, 1, 0, &error));
+    ROW(BAD_ARGUMENT, OPEN(&out.dictionary, system.path, users, SIZE_MAX, 0, &error));
+    PLAIN(OK, OPEN(NULL, system.path, users, 1, 0, &error));
+    PLAIN(OK, OPEN(NULL, system.path, NULL, 0, 0, NULL));
+    PLAIN(FILE, OPEN(NULL, nothing, NULL, 0, 0, NULL));
+    PLAIN(BAD_ARGUMENT, OPEN(NULL, system.path, NULL, 0, 64, NULL));
+#undef OPEN
 }
 
-static void formats(kumquatsieve_cutter *cutter) {
-    CHECK(set_format(cutter, "%m", "%m%", "", "") == KUMQUATSIEVE_BAD_ITEM && part == 1 && at == 2);
-    CHECK(set_format(cutter, "%m", "%m", "\\q", "") == KUMQUATSIEVE_BAD_ESCAPE && part == 2 &&
-          at == 0);
-    CHECK(set_format(cutter, "a%f[x]", "%m", "", "") == KUMQUATSIEVE_BAD_INDEX && part == 0 &&
-          at == 1);
-    CHECK(set_format(cutter, "\xff", "", "", "") == KUMQUATSIEVE_NOT_UTF8 && part == 0);
-    CHECK(cut(cutter, LINE) == KUMQUATSIEVE_OK && prints(cutter, PRINTED));
-    CHECK(set_format(cutter, "%m ", "%m ", "", "\\n") == KUMQUATSIEVE_OK &&
-          cut(cutter, LINE) == KUMQUATSIEVE_OK && prints(cutter, "すもも もも \n"));
-    CHECK(kumquatsieve_set_grouping(cutter, 1001) == KUMQUATSIEVE_BAD_GROUPING);
-    CHECK(kumquatsieve_set_grouping(cutter, 1000) == KUMQUATSIEVE_OK);
+static void from_memory(file system, file user) {
+    const kumquatsieve_image images[] = {{system.bytes, system.length}, {user.bytes, user.length}};
+    const kumquatsieve_image none[] = {{NULL, 0}, {NULL, 1}};
+#define LOAD kumquatsieve_dictionary_load
+    ROW(OK, LOAD(&out.dictionary, images, 2, KUMQUATSIEVE_SKIP_DIGEST, &error));
+    kumquatsieve_dictionary_release(out.dictionary);
+    ROW(TRUNCATED, LOAD(&out.dictionary, none, 1, 0, &error));
+    ROW(TRUNCATED, LOAD(&out.dictionary, none, 1, KUMQUATSIEVE_TRUSTED, &error));
+    ROW(NOT_SYSTEM, LOAD(&out.dictionary, images + 1, 1, 0, &error));
+    ROW(BAD_ARGUMENT, LOAD(&out.dictionary, none + 1, 1, 0, &error));
+    ROW(BAD_ARGUMENT, LOAD(&out.dictionary, images, 0, 0, &error));
+    ROW(BAD_ARGUMENT, LOAD(&out.dictionary, NULL, 1, 0, &error));
+    ROW(BAD_ARGUMENT, LOAD(&out.dictionary, images, 1, KUMQUATSIEVE_COPY, &error));
+    ROW(MEMORY, LOAD(&out.dictionary, images, SIZE_MAX, 0, &error));
+    PLAIN(OK, LOAD(NULL, images, 2, 0, NULL));
+    PLAIN(TRUNCATED, LOAD(NULL, none, 1, 0, NULL));
+#undef LOAD
 }
 
-/* The user dictionary has the word すもももも. */
-static void users(kumquatsieve_cutter *cutter, file user) {
-    kumquatsieve_cutter other = KUMQUATSIEVE_EMPTY;
-    CHECK(kumquatsieve_share(&other, cutter) == KUMQUATSIEVE_OK && other.held);
-    CHECK(kumquatsieve_share(&other, cutter) == KUMQUATSIEVE_FULL_CUTTER);
-    CHECK(load_user(cutter, user, &number) == KUMQUATSIEVE_SHARED);
-    CHECK(kumquatsieve_words(&other, 0, words, 8, &count) == KUMQUATSIEVE_NOTHING_CUT);
-    CHECK(cut(&other, LINE) == KUMQUATSIEVE_OK && prints(&other, "すもも もも \n"));
-    kumquatsieve_free(cutter);
-    CHECK(load_user(&other, user, &number) == KUMQUATSIEVE_OK);
-    CHECK(cut(&other, LINE) == KUMQUATSIEVE_OK && prints(&other, "すもももも \n"));
-    CHECK(kumquatsieve_words(&other, 0, words, 8, &count) == KUMQUATSIEVE_OK && count == 1 &&
-          words[0].dictionary == 1);
-    kumquatsieve_free(&other);
+static void infos(void) {
+    ROW(OK, kumquatsieve_dictionary_info(dictionary, 1, &out.info, &error));
+    ROW(BAD_ARGUMENT, kumquatsieve_dictionary_info(dictionary, 2, &out.info, &error));
+    ROW(BAD_ARGUMENT, kumquatsieve_dictionary_info(dictionary, SIZE_MAX, &out.info, &error));
+    ROW(EMPTY_SEGMENTER, kumquatsieve_dictionary_info(NULL, 0, &out.info, &error));
+    PLAIN(OK, kumquatsieve_dictionary_info(dictionary, 0, NULL, NULL));
+    PLAIN(EMPTY_SEGMENTER, kumquatsieve_dictionary_info(NULL, 0, NULL, NULL));
+    CHECK(!kumquatsieve_dictionary_retain(NULL));
+    kumquatsieve_dictionary_release(NULL);
 }
 
-static void texts_of_faults(void) {
-    CHECK(kumquatsieve_fault(KUMQUATSIEVE_BAD_SECTION, room, sizeof room, &length) ==
-              KUMQUATSIEVE_OK &&
-          is_text(room, length, "L4 BadSection"));
-    CHECK(kumquatsieve_fault(KUMQUATSIEVE_SHARED, room, sizeof room, &length) == KUMQUATSIEVE_OK &&
-          is_text(room, length, "K3 Shared"));
-    CHECK(kumquatsieve_fault(KUMQUATSIEVE_SHARED, room, 2, &length) == KUMQUATSIEVE_SHORT_BUFFER &&
-          length == 9);
-    kumquatsieve_fault(77, room, sizeof room, &length);
-    CHECK(length == 0);
+static void lookups(void) {
+#define LOOKUP kumquatsieve_lookup
+    ROW(OK, LOOKUP(dictionary, "もも", 6, 0, out.words, ROOM, &out.count, &error));
+    ROW(OK, LOOKUP(dictionary, NULL, 0, 0, out.words, ROOM, &out.count, &error));
+    CHECK(out.count == 0);
+    ROW(OK, LOOKUP(dictionary, "\xff", 1, 0, out.words, ROOM, &out.count, &error));
+    CHECK(out.count == 0);
+    ROW(OK, LOOKUP(dictionary, long_line, LONGEST + 1, 0, out.words, ROOM, &out.count, &error));
+    CHECK(out.count == 0);
+    ROW(EMPTY_SEGMENTER, LOOKUP(NULL, "もも", 6, 0, out.words, ROOM, &out.count, &error));
+    ROW(BAD_ARGUMENT, LOOKUP(dictionary, NULL, 1, 0, out.words, ROOM, &out.count, &error));
+    ROW(BAD_ARGUMENT, LOOKUP(dictionary, "もも", 6, 1, out.words, ROOM, &out.count, &error));
+    ROW(BAD_ARGUMENT, LOOKUP(dictionary, "もも", 6, 0, NULL, 1, &out.count, &error));
+    PLAIN(OK, LOOKUP(dictionary, "もも", 6, 0, NULL, 0, NULL, NULL));
+    PLAIN(EMPTY_SEGMENTER, LOOKUP(NULL, NULL, 0, 0, NULL, 0, NULL, NULL));
+#undef LOOKUP
+}
+
+static void segmenters(void) {
+    kumquatsieve_segmenter own = KUMQUATSIEVE_EMPTY;
+    PLAIN(OK, kumquatsieve_segmenter_open(&own, dictionary, &error));
+    PLAIN(FULL_SEGMENTER, kumquatsieve_segmenter_open(&own, dictionary, &error));
+    PLAIN(EMPTY_SEGMENTER, kumquatsieve_segmenter_open(&empty, NULL, &error));
+    PLAIN(BAD_ARGUMENT, kumquatsieve_segmenter_open(NULL, dictionary, &error));
+    PLAIN(BAD_ARGUMENT, kumquatsieve_segmenter_open(NULL, NULL, NULL));
+    PLAIN(OK, kumquatsieve_shrink(&own, &error));
+    PLAIN(OK, kumquatsieve_shrink(&own, NULL));
+    PLAIN(EMPTY_SEGMENTER, kumquatsieve_shrink(&empty, &error));
+    PLAIN(EMPTY_SEGMENTER, kumquatsieve_shrink(NULL, &error));
+    PLAIN(OK, kumquatsieve_set_format(&own, NULL, NULL, NULL, NULL, &error));
+    PLAIN(OK, kumquatsieve_set_format(&own, "%m", "", "[", "]", NULL));
+    PLAIN(BAD_ESCAPE, kumquatsieve_set_format(&own, "\\q", NULL, NULL, NULL, &error));
+    PLAIN(BAD_ITEM, kumquatsieve_set_format(&own, "%m", "%q", NULL, NULL, &error));
+    PLAIN(BAD_INDEX, kumquatsieve_set_format(&own, "%f[x]", NULL, NULL, NULL, &error));
+    PLAIN(NOT_UTF8, kumquatsieve_set_format(&own, NULL, NULL, "\xff", NULL, NULL));
+    PLAIN(EMPTY_SEGMENTER, kumquatsieve_set_format(&empty, NULL, NULL, NULL, NULL, &error));
+    PLAIN(EMPTY_SEGMENTER, kumquatsieve_set_format(NULL, "%q", NULL, NULL, NULL, NULL));
+    PLAIN(OK, kumquatsieve_set_grouping(&own, 1000, &error));
+    PLAIN(BAD_GROUPING, kumquatsieve_set_grouping(&own, 1001, &error));
+    PLAIN(BAD_GROUPING, kumquatsieve_set_grouping(&own, UINT32_MAX, NULL));
+    PLAIN(EMPTY_SEGMENTER, kumquatsieve_set_grouping(&empty, 1, &error));
+    PLAIN(EMPTY_SEGMENTER, kumquatsieve_set_grouping(NULL, 1001, NULL));
+    kumquatsieve_segmenter_close(&own);
+    kumquatsieve_segmenter_close(&own);
+    kumquatsieve_segmenter_close(NULL);
+    CHECK(!own.held && !own.core && !own.state);
+}
+
+static void lines(void) {
+#define SEGMENT kumquatsieve_segment
+    ROW(OK, SEGMENT(&full, NULL, 0, 0, &out.line, &error));
+    ROW(OK, SEGMENT(&full, "a\nb", 3, KUMQUATSIEVE_WHOLE, &out.line, &error));
+    ROW(OK, SEGMENT(&full, long_line, LONGEST, 0, &out.line, &error));
+    ROW(LINE_FEED, SEGMENT(&full, "a\nb", 3, 0, &out.line, &error));
+    ROW(NOT_UTF8, SEGMENT(&full, "a\xff", 2, 0, &out.line, &error));
+    ROW(NOT_UTF8, SEGMENT(&full, "\n\xff", 2, KUMQUATSIEVE_WHOLE, &out.line, &error));
+    ROW(TOO_LONG, SEGMENT(&full, long_line, LONGEST + 1, 0, &out.line, &error));
+    ROW(EMPTY_SEGMENTER, SEGMENT(&empty, "a\nb", 3, 0, &out.line, &error));
+    ROW(EMPTY_SEGMENTER, SEGMENT(NULL, "a", 1, 0, &out.line, &error));
+    ROW(BAD_ARGUMENT, SEGMENT(&full, NULL, 1, 0, &out.line, &error));
+    ROW(BAD_ARGUMENT, SEGMENT(&full, "a", 1, KUMQUATSIEVE_PREFIXES, &out.line, &error));
+    PLAIN(OK, SEGMENT(&full, LINE, strlen(LINE), 0, NULL, &error));
+    PLAIN(NOT_UTF8, SEGMENT(&full, "\xff", 1, 0, NULL, NULL));
+#undef SEGMENT
+#define SEGMENT_TEXT kumquatsieve_segment_text
+    ROW(OK, SEGMENT_TEXT(&full, NULL, 0, 0, 0, &out.line, &error));
+    ROW(OK, SEGMENT_TEXT(&full, "\xff\n\xff", 3, 1, 0, &out.line, &error));
+    ROW(OK, SEGMENT_TEXT(&full, "a", 1, 1, KUMQUATSIEVE_WHOLE, &out.line, &error));
+    ROW(BAD_ARGUMENT, SEGMENT_TEXT(&full, "a", 1, 2, 0, &out.line, &error));
+    ROW(BAD_ARGUMENT, SEGMENT_TEXT(&full, NULL, 1, 0, 0, &out.line, &error));
+    ROW(BAD_ARGUMENT, SEGMENT_TEXT(&full, "a", 1, 0, ~0u, &out.line, &error));
+    ROW(EMPTY_SEGMENTER, SEGMENT_TEXT(&empty, "a", 1, 2, 0, &out.line, &error));
+    ROW(EMPTY_SEGMENTER, SEGMENT_TEXT(NULL, "a", 1, 0, 0, &out.line, &error));
+    PLAIN(OK, SEGMENT_TEXT(&full, LINE, strlen(LINE), 0, 0, NULL, NULL));
+#undef SEGMENT_TEXT
+#define PARSE kumquatsieve_parse_lines
+    ROW(OK, PARSE(&uncut, "a\n", 2, &out.text, &out.length, &out.lines, &error));
+    ROW(OK, PARSE(&uncut, NULL, 0, &out.text, &out.length, &out.lines, &error));
+    ROW(EMPTY_SEGMENTER, PARSE(&empty, "a", 1, &out.text, &out.length, &out.lines, &error));
+    ROW(EMPTY_SEGMENTER, PARSE(NULL, "a", 1, &out.text, &out.length, &out.lines, &error));
+    ROW(BAD_ARGUMENT, PARSE(&uncut, NULL, 1, &out.text, &out.length, &out.lines, &error));
+    PLAIN(NOT_UTF8, PARSE(&uncut, "a\n\xff\n", 4, &out.text, &out.length, &out.lines, &error));
+    CHECK(out.lines == 2 && is_text(out.text, out.length, "a\t未知\nEOS\n"));
+    PLAIN(TOO_LONG, PARSE(&uncut, long_line, LONGEST + 1, NULL, NULL, NULL, &error));
+    PLAIN(NOT_UTF8, PARSE(&uncut, "\xff", 1, NULL, NULL, NULL, NULL));
+    PLAIN(OK, PARSE(&uncut, "a", 1, NULL, NULL, NULL, NULL));
+#undef PARSE
+}
+
+static void results(void) {
+#define WORDS kumquatsieve_words
+#define NODES kumquatsieve_nodes
+#define PRINT kumquatsieve_print
+#define FEATURES kumquatsieve_features
+    ROW(OK, WORDS(&full, &out.lent_words, &out.count, &error));
+    ROW(NOTHING_SEGMENTED, WORDS(&uncut, &out.lent_words, &out.count, &error));
+    ROW(EMPTY_SEGMENTER, WORDS(&empty, &out.lent_words, &out.count, &error));
+    ROW(EMPTY_SEGMENTER, WORDS(NULL, &out.lent_words, &out.count, &error));
+    PLAIN(OK, WORDS(&full, NULL, NULL, NULL));
+    ROW(OK, NODES(&full, &out.lent_nodes, &out.count, &error));
+    ROW(NOTHING_SEGMENTED, NODES(&uncut, &out.lent_nodes, &out.count, &error));
+    ROW(EMPTY_SEGMENTER, NODES(&empty, &out.lent_nodes, &out.count, &error));
+    ROW(EMPTY_SEGMENTER, NODES(NULL, &out.lent_nodes, &out.count, &error));
+    PLAIN(OK, NODES(&full, NULL, NULL, NULL));
+    ROW(OK, PRINT(&full, &out.text, &out.length, &error));
+    ROW(NOTHING_SEGMENTED, PRINT(&uncut, &out.text, &out.length, &error));
+    ROW(EMPTY_SEGMENTER, PRINT(&empty, &out.text, &out.length, &error));
+    ROW(EMPTY_SEGMENTER, PRINT(NULL, &out.text, &out.length, &error));
+    PLAIN(OK, PRINT(&full, NULL, NULL, NULL));
+    ROW(OK, FEATURES(&full, &out.text, &out.length, &error));
+    ROW(NOTHING_SEGMENTED, FEATURES(&uncut, &out.text, &out.length, &error));
+    ROW(EMPTY_SEGMENTER, FEATURES(&empty, &out.text, &out.length, &error));
+    ROW(EMPTY_SEGMENTER, FEATURES(NULL, &out.text, &out.length, &error));
+    PLAIN(OK, FEATURES(&full, NULL, NULL, NULL));
+#undef WORDS
+#undef NODES
+#undef PRINT
+#undef FEATURES
+}
+
+static void fields(void) {
+#define FEATURE kumquatsieve_feature
+#define FIELD kumquatsieve_field
+#define NAMED kumquatsieve_field_named
+    CHECK(kumquatsieve_words(&full, &word, NULL, NULL) == KUMQUATSIEVE_OK);
+    ROW(OK, FEATURE(&full, word, &out.text, &out.length, &error));
+    ROW(OK, FEATURE(&uncut, word, &out.text, &out.length, &error));
+    ROW(EMPTY_SEGMENTER, FEATURE(&empty, word, &out.text, &out.length, &error));
+    ROW(EMPTY_SEGMENTER, FEATURE(NULL, NULL, &out.text, &out.length, &error));
+    ROW(BAD_ARGUMENT, FEATURE(&full, NULL, &out.text, &out.length, &error));
+    PLAIN(OK, FEATURE(&full, word, NULL, NULL, NULL));
+    ROW(OK, FIELD(&full, word, 1, &out.text, &out.length, &error));
+    ROW(OK, FIELD(&full, word, SIZE_MAX, &out.text, &out.length, &error));
+    CHECK(!out.text && out.length == 0);
+    ROW(EMPTY_SEGMENTER, FIELD(&empty, word, 1, &out.text, &out.length, &error));
+    ROW(EMPTY_SEGMENTER, FIELD(NULL, word, 1, &out.text, &out.length, &error));
+    ROW(BAD_ARGUMENT, FIELD(&full, NULL, 1, &out.text, &out.length, &error));
+    PLAIN(OK, FIELD(&full, word, 1, NULL, NULL, NULL));
+    ROW(NO_FIELD, NAMED(&full, word, "no such field", &out.text, &out.length, &error));
+    ROW(EMPTY_SEGMENTER, NAMED(&empty, word, "pos1", &out.text, &out.length, &error));
+    ROW(EMPTY_SEGMENTER, NAMED(NULL, word, "pos1", &out.text, &out.length, &error));
+    ROW(BAD_ARGUMENT, NAMED(&full, word, NULL, &out.text, &out.length, &error));
+    PLAIN(NO_FIELD, NAMED(&full, word, "no such field", NULL, NULL, NULL));
+}
+
+static void names(void) {
+    char room[4096];
+    size_t needed = 0;
+    ROW(OK, kumquatsieve_find_image("./x", out.path, sizeof out.path, &out.length, &error));
+    ROW(FILE, kumquatsieve_find_image("no-such-name", out.path, 4, &out.length, &error));
+    ROW(BAD_ARGUMENT, kumquatsieve_find_image("./x", NULL, 4, &out.length, &error));
+    PLAIN(SHORT_BUFFER, kumquatsieve_find_image("./x", room, 3, &needed, &error));
+    CHECK(needed == 4);
+    PLAIN(SHORT_BUFFER, kumquatsieve_find_image("./x", NULL, 0, NULL, NULL));
+    PLAIN(OK, kumquatsieve_list_images(room, sizeof room, NULL, &error));
+    PLAIN(BAD_ARGUMENT, kumquatsieve_list_images(NULL, 1, &needed, &error));
+    PLAIN(OK, kumquatsieve_list_directories(room, sizeof room, &needed, &error));
+    PLAIN(BAD_ARGUMENT, kumquatsieve_list_directories(NULL, 1, NULL, &error));
+    PLAIN(SHORT_BUFFER, kumquatsieve_list_directories(NULL, 0, NULL, NULL));
+    CHECK(!kumquatsieve_explain(2) && kumquatsieve_explain(KUMQUATSIEVE_NO_FIELD));
+    CHECK(kumquatsieve_version() == KUMQUATSIEVE_VERSION_NUMBER);
 }
 
 int main(int given, char **paths) {
-    CHECK(given == 3);
-    kumquatsieve_cutter cutter = KUMQUATSIEVE_EMPTY;
+    CHECK(given == 4);
     file system = read_file(paths[1]), user = read_file(paths[2]);
-    calls_of_an_empty_cutter(user);
-    refused_images(system, user);
-    CHECK(load(&cutter, system, &number) == KUMQUATSIEVE_OK);
-    memset(system.bytes, 0, system.length);
-    lines(&cutter);
-    text_lines(&cutter);
-    too_long_line(&cutter);
-    the_words(&cutter);
-    formats(&cutter);
-    users(&cutter, user);
-    texts_of_faults();
+    const file both[] = {system, user};
+    memset(long_line, 'z', sizeof long_line);
+    CHECK(open_images(&dictionary, both, 2, NULL) == KUMQUATSIEVE_OK);
+    CHECK(kumquatsieve_segmenter_open(&full, dictionary, NULL) == KUMQUATSIEVE_OK);
+    CHECK(kumquatsieve_segmenter_open(&uncut, dictionary, NULL) == KUMQUATSIEVE_OK);
+    opened(system, user, paths[3]);
+    from_memory(system, user);
+    infos();
+    lookups();
+    segmenters();
+    lines();
+    results();
+    fields();
+    names();
+    kumquatsieve_segmenter_close(&full);
+    kumquatsieve_segmenter_close(&uncut);
+    kumquatsieve_dictionary_release(dictionary);
     free(system.bytes);
     free(user.bytes);
-    puts("calls: each answers as the header says");
+    printf("calls: %zu calls with each code and each NULL; a failure leaves the outputs\n", rows);
     return 0;
 }

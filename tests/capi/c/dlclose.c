@@ -8,16 +8,17 @@
 enum { OFTEN = 20 };
 
 static void open_once(const char *library, const char *image) {
-    kumquatsieve_cutter cutter = KUMQUATSIEVE_EMPTY;
-    uint32_t (*opens)(kumquatsieve_cutter *, const char *, unsigned, uint64_t *);
-    void (*frees)(kumquatsieve_cutter *);
+    kumquatsieve_dictionary *dictionary = NULL;
+    uint32_t (*opens)(kumquatsieve_dictionary **, const char *, const char *const *, size_t,
+                      uint32_t, kumquatsieve_error *);
+    void (*releases)(kumquatsieve_dictionary *);
     void *loaded_library = dlopen(library, RTLD_NOW | RTLD_LOCAL);
     CHECK(loaded_library);
-    *(void **)&opens = dlsym(loaded_library, "kumquatsieve_open");
-    *(void **)&frees = dlsym(loaded_library, "kumquatsieve_free");
-    CHECK(opens && frees && opens(&cutter, image, 0, NULL) == KUMQUATSIEVE_OK &&
+    *(void **)&opens = dlsym(loaded_library, "kumquatsieve_dictionary_open");
+    *(void **)&releases = dlsym(loaded_library, "kumquatsieve_dictionary_release");
+    CHECK(opens && releases && opens(&dictionary, image, NULL, 0, 0, NULL) == KUMQUATSIEVE_OK &&
           mappings_of(image) == 1);
-    frees(&cutter);
+    releases(dictionary);
     CHECK(mappings_of(image) == 0 && dlclose(loaded_library) == 0);
 }
 

@@ -1,5 +1,5 @@
-/* Functions that the test programs share. If HOW is defined, they open images by their paths, with
-   HOW as the argument `how`. Otherwise they load copies of the bytes. */
+/* Functions that the test programs share. If FLAGS is defined, they open images by their paths with
+   these flags. Otherwise they load the bytes. */
 #ifndef HELPERS_H
 #define HELPERS_H
 #include "../../support/check.h"
@@ -8,8 +8,7 @@
 #include <stdlib.h>
 #include <string.h>
 
-/* A text as bytes. */
-#define BYTES(text) ((const uint8_t *)(text))
+enum { IMAGES_MOST = 32 };
 
 /* A line of words of the sample, and what jseg prints for it. */
 #define LINE "すもももも"
@@ -37,50 +36,67 @@ static inline file read_file(const char *path) {
     return whole;
 }
 
-static inline int is_text(const uint8_t *bytes, size_t length, const char *text) {
+static inline bool is_text(const char *bytes, size_t length, const char *text) {
     return length == strlen(text) && memcmp(bytes, text, length) == 0;
 }
 
-static inline uint32_t cut(kumquatsieve_cutter *cutter, const char *line) {
-    size_t count = 0;
-    int64_t total = 0;
-    return kumquatsieve_cut(cutter, BYTES(line), strlen(line), &count, &total, NULL);
+static inline uint32_t cut(kumquatsieve_segmenter *segmenter, const char *line) {
+    return kumquatsieve_segment(segmenter, line, strlen(line), 0, NULL, NULL);
 }
 
-/* Fills a cutter with a system image. */
-static inline uint32_t load(kumquatsieve_cutter *cutter, file image, uint64_t *number) {
-#ifdef HOW
-    return kumquatsieve_open(cutter, image.path, HOW, number);
+/* Opens a dictionary of a system image and user images. */
+static inline uint32_t open_images(kumquatsieve_dictionary **dictionary, const file *images,
+                                   size_t count, kumquatsieve_error *error) {
+    CHECK(count > 0 && count <= IMAGES_MOST);
+#ifdef FLAGS
+    const char *users[IMAGES_MOST] = {NULL};
+    for (size_t i = 1; i < count; i++) users[i - 1] = images[i].path;
+    return kumquatsieve_dictionary_open(dictionary, images[0].path, users, count - 1, FLAGS, error);
 #else
-    return kumquatsieve_load(cutter, image.bytes, image.length, number);
+    kumquatsieve_image bytes[IMAGES_MOST];
+    for (size_t i = 0; i < count; i++)
+        bytes[i] = (kumquatsieve_image){images[i].bytes, images[i].length};
+    return kumquatsieve_dictionary_load(dictionary, bytes, count, 0, error);
 #endif
 }
 
-/* Adds a user image. */
-static inline uint32_t load_user(kumquatsieve_cutter *cutter, file image, uint64_t *number) {
-#ifdef HOW
-    return kumquatsieve_open_user(cutter, image.path, HOW, number);
-#else
-    return kumquatsieve_add_user(cutter, image.bytes, image.length, number);
-#endif
+/* Fills an empty segmenter over such a dictionary. */
+static inline uint32_t load(kumquatsieve_segmenter *segmenter, const file *images, size_t count,
+                            kumquatsieve_error *error) {
+    kumquatsieve_dictionary *dictionary = NULL;
+    uint32_t code = open_images(&dictionary, images, count, error);
+    if (code == KUMQUATSIEVE_OK) code = kumquatsieve_segmenter_open(segmenter, dictionary, error);
+    kumquatsieve_dictionary_release(dictionary);
+    return code;
 }
 
-static inline kumquatsieve_cutter loaded(file image) {
-    kumquatsieve_cutter cutter = kumquatsieve_empty();
-    CHECK(load(&cutter, image, NULL) == KUMQUATSIEVE_OK);
-    return cutter;
+static inline kumquatsieve_segmenter loaded(file image) {
+    kumquatsieve_segmenter segmenter = KUMQUATSIEVE_EMPTY;
+    CHECK(load(&segmenter, &image, 1, NULL) == KUMQUATSIEVE_OK);
+    return segmenter;
 }
 
-static inline uint32_t set_texts(kumquatsieve_cutter *cutter, const char *node, const char *unk,
-                                 const char *bos, const char *eos) {
-    return kumquatsieve_set_format(cutter, BYTES(node), strlen(node), BYTES(unk), strlen(unk),
-                                   BYTES(bos), strlen(bos), BYTES(eos), strlen(eos), NULL, NULL);
+static inline kumquatsieve_segmenter loaded_with(file image, file user) {
+    const file images[] = {image, user};
+    kumquatsieve_segmenter segmenter = KUMQUATSIEVE_EMPTY;
+    CHECK(load(&segmenter, images, 2, NULL) == KUMQUATSIEVE_OK);
+    return segmenter;
 }
 
-static inline int prints(kumquatsieve_cutter *cutter, const char *wanted) {
-    const uint8_t *text = NULL;
+static inline uint32_t set_texts(kumquatsieve_segmenter *segmenter, const char *node,
+                                 const char *unk, const char *bos, const char *eos) {
+    return kumquatsieve_set_format(segmenter, node, unk, bos, eos, NULL);
+}
+
+static inline bool prints(kumquatsieve_segmenter *segmenter, const char *wanted) {
+    const char *text = NULL;
     size_t length = 0;
-    return kumquatsieve_print(cutter, &text, &length) == KUMQUATSIEVE_OK &&
+    return kumquatsieve_print(segmenter, &text, &length, NULL) == KUMQUATSIEVE_OK &&
            is_text(text, length, wanted);
+}
+
+/* Whether a line is segmented, and prints this. */
+static inline bool cuts(kumquatsieve_segmenter *segmenter, const char *line, const char *wanted) {
+    return cut(segmenter, line) == KUMQUATSIEVE_OK && prints(segmenter, wanted);
 }
 #endif

@@ -1,11 +1,11 @@
 /* Tests that huge pages are requested for the memory of a large image, and for nothing else:
-   huge_pages SYSTEM.img LARGE.img. The large image is longer than LARGE in capi/heap.c. Both have
-   the words of the sample. Prints how many kB of it are in huge pages. */
+   huge_pages SYSTEM.img LARGE.img. The large image is longer than LARGE in capi/src/mapping.c. Both
+   have the words of the sample. Prints how many kB of it are in huge pages. */
+#define _GNU_SOURCE
 #include "helpers.h"
 #include <errno.h>
-#include <malloc.h>
-
-enum { PIECE = 65536, BEFORE = 77 };
+#include <sys/wait.h>
+#include <unistd.h>
 
 /* Whether the kernel rejects requests for huge pages. */
 static bool refuses;
@@ -42,48 +42,70 @@ static pages pages_now(void) {
     return found;
 }
 
-static uint32_t copied(kumquatsieve_cutter *cutter, file image) {
-    return kumquatsieve_load_by(cutter, image.bytes, image.length, true, NULL);
+static uint32_t copied(kumquatsieve_segmenter *segmenter, file image) {
+    kumquatsieve_dictionary *dictionary = NULL;
+    const kumquatsieve_image bytes = {image.bytes, image.length};
+    uint32_t code =
+        kumquatsieve_dictionary_load(&dictionary, &bytes, 1, KUMQUATSIEVE_SKIP_DIGEST, NULL);
+    if (code == KUMQUATSIEVE_OK) code = kumquatsieve_segmenter_open(segmenter, dictionary, NULL);
+    kumquatsieve_dictionary_release(dictionary);
+    return code;
 }
 
-static uint32_t in_pieces(kumquatsieve_cutter *cutter, file image, size_t room) {
-    kumquatsieve_buffer buffer = kumquatsieve_no_bytes();
-    for (size_t at = 0; at < image.length; at += PIECE) {
-        size_t left = image.length - at;
-        CHECK(kumquatsieve_buffer_append(&buffer, room, image.bytes + at,
-                                         left < PIECE ? left : PIECE) == KUMQUATSIEVE_OK);
+static uint32_t opened(kumquatsieve_segmenter *segmenter, const char *path) {
+    kumquatsieve_dictionary *dictionary = NULL;
+    uint32_t code =
+        kumquatsieve_dictionary_open(&dictionary, path, NULL, 0, KUMQUATSIEVE_COPY, NULL);
+    if (code == KUMQUATSIEVE_OK) code = kumquatsieve_segmenter_open(segmenter, dictionary, NULL);
+    kumquatsieve_dictionary_release(dictionary);
+    return code;
+}
+
+static uint32_t read_whole(kumquatsieve_segmenter *segmenter, file image) {
+    return opened(segmenter, image.path);
+}
+
+/* A pipe has no length, so the memory grows. */
+static uint32_t piped(kumquatsieve_segmenter *segmenter, file image) {
+    char path[32];
+    int ends[2];
+    CHECK(pipe(ends) == 0);
+    pid_t child = fork();
+    CHECK(child >= 0);
+    if (child == 0) {
+        size_t at = 0;
+        close(ends[0]);
+        while (at < image.length) {
+            ssize_t written = write(ends[1], image.bytes + at, image.length - at);
+            if (written <= 0) _exit(1);
+            at += (size_t)written;
+        }
+        _exit(0);
     }
-    return kumquatsieve_load_buffer(cutter, &buffer, true, NULL);
-}
-
-static uint32_t with_room(kumquatsieve_cutter *cutter, file image) {
-    return in_pieces(cutter, image, image.length);
-}
-
-/* Appends without room, so that the block grows. */
-static uint32_t without_room(kumquatsieve_cutter *cutter, file image) {
-    return in_pieces(cutter, image, 0);
+    close(ends[1]);
+    snprintf(path, sizeof path, "/dev/fd/%d", ends[0]);
+    uint32_t code = opened(segmenter, path);
+    close(ends[0]);
+    waitpid(child, NULL, 0);
+    return code;
 }
 
 /* A way to load an image. */
 typedef struct way {
     const char *what;
-    uint32_t (*load)(kumquatsieve_cutter *cutter, file image);
+    uint32_t (*load)(kumquatsieve_segmenter *segmenter, file image);
 } way;
 
-static const way WAYS[] = {{"copied", copied},
-                           {"in pieces, with room", with_room},
-                           {"in pieces, without room", without_room}};
+static const way WAYS[] = {{"copied", copied}, {"read", read_whole}, {"piped", piped}};
 
 /* Returns the pages of a process that loads an image in one way. After the image is freed nothing
-   has huge pages any more. errno is unchanged. */
+   has huge pages any more. */
 static pages pages_of(const way *by, file image) {
-    kumquatsieve_cutter cutter = kumquatsieve_empty();
-    errno = BEFORE;
-    CHECK_CASE(by->what, by->load(&cutter, image) == KUMQUATSIEVE_OK && errno == BEFORE);
-    CHECK_CASE(by->what, cut(&cutter, LINE) == KUMQUATSIEVE_OK && prints(&cutter, PRINTED));
+    kumquatsieve_segmenter segmenter = KUMQUATSIEVE_EMPTY;
+    CHECK_CASE(by->what, by->load(&segmenter, image) == KUMQUATSIEVE_OK);
+    CHECK_CASE(by->what, cut(&segmenter, LINE) == KUMQUATSIEVE_OK && prints(&segmenter, PRINTED));
     pages found = pages_now();
-    kumquatsieve_free(&cutter);
+    kumquatsieve_segmenter_close(&segmenter);
     CHECK_CASE(by->what, pages_now().asked == 0);
     return found;
 }
@@ -107,19 +129,11 @@ static void refused(file large) {
     refuses = false;
 }
 
-/* Nothing is requested for a block in the heap, where it is if malloc maps no blocks separately. */
-static void in_the_heap(file large) {
-    CHECK(mallopt(M_MMAP_MAX, 0) == 1);
-    for (size_t i = 0; i < COUNT_OF(WAYS); i++)
-        CHECK_CASE(WAYS[i].what, pages_of(&WAYS[i], large).asked == 0);
-}
-
 int main(int given, char **paths) {
     CHECK(given == 3);
     file system = read_file(paths[1]), large = read_file(paths[2]);
     asked_for_the_large_one(system, large);
     refused(large);
-    in_the_heap(large);
     free(system.bytes);
     free(large.bytes);
     return 0;

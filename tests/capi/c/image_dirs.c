@@ -1,8 +1,42 @@
 /* Tests the calls that find installed images: image_dirs FOLDER. FOLDER has the files that
-   tests/capi/cases/image_dirs.py makes, and is the current directory. */
+   tests/capi/cases/image_dirs.py makes, and is the current directory. It is linked with the sources
+   of these calls, and says itself where the library is installed. */
 #define _GNU_SOURCE
-#include "image_calls.h"
-#include <stdio.h>
+#include "helpers.h"
+
+/* The prefix, or NULL if memory runs out. */
+static const char *prefix;
+
+char *installed_prefix(void);
+uint32_t proved_fault(uint32_t code, char *out, size_t room, size_t *needed);
+
+char *installed_prefix(void) { return prefix ? strdup(prefix) : NULL; }
+
+uint32_t proved_fault(uint32_t code, char *out, size_t room, size_t *needed) {
+    (void)code, (void)out, (void)room;
+    *needed = 0;
+    return KUMQUATSIEVE_OK;
+}
+
+typedef uint32_t list_call(char *texts, size_t room, size_t *needed, kumquatsieve_error *error);
+
+/* A call with its argument: `list`, or kumquatsieve_find_image if that is NULL. */
+typedef struct request {
+    list_call *list;
+    const char *name;
+} request;
+
+static uint32_t call(const request *of, char *out, size_t room, size_t *needed) {
+    return of->list ? of->list(out, room, needed, NULL)
+                    : kumquatsieve_find_image(of->name, out, room, needed, NULL);
+}
+
+/* Whether a result is the wanted one, which has `|` in place of each zero byte. */
+static bool is_result(const char *out, size_t length, const char *wanted) {
+    bool is_same = length == strlen(wanted);
+    for (size_t i = 0; is_same && i < length; i++) is_same = (out[i] ? out[i] : '|') == wanted[i];
+    return is_same;
+}
 
 enum { ROOM = 4096, UNSET = 77 };
 
@@ -60,8 +94,6 @@ static const struct {
     {"no variable", NULL, NULL, "/p", PREFIX_DIRS},
     {"the prefix /usr", NULL, NULL, "/usr", "/var/lib/kumquatsieve|/usr/share/kumquatsieve|"},
     {"the prefix of /bin", NULL, NULL, "", "/var/lib/kumquatsieve|/share/kumquatsieve|"},
-    {"no prefix", "/d", "/h", NULL, "/d/kumquatsieve|"},
-    {"no prefix and no variable", NULL, NULL, NULL, ""},
     {"share/ is the user's own", "/p/share", NULL, "/p",
      "/p/share/kumquatsieve|/p/var/lib/kumquatsieve|"},
     {"var/lib/ is the user's own", "/p/var/lib", NULL, "/p", PREFIX_DIRS},
@@ -69,7 +101,8 @@ static const struct {
 
 static void check_directories(void) {
     for (size_t i = 0; i < COUNT_OF(DIRECTORIES); i++) {
-        request of = {NULL, kumquatsieve_list_image_directories, NULL, DIRECTORIES[i].prefix};
+        const request of = {kumquatsieve_list_directories, NULL};
+        prefix = DIRECTORIES[i].prefix;
         set_variable("XDG_DATA_HOME", DIRECTORIES[i].data_home);
         set_variable("HOME", DIRECTORIES[i].home);
         check_result(DIRECTORIES[i].what, &of, DIRECTORIES[i].wanted);
@@ -83,31 +116,30 @@ static void check_directories(void) {
 #define ITSELF ""
 #define NONE NULL
 static const struct {
-    const char *what, *name, *image, *installed;
+    const char *what, *name, *image;
 } NAMES[] = {
-    {"in the first directory", "own", OWN "own.img", OWN "own.img"},
-    {"in the second one", "made", MADE "made.img", MADE "made.img"},
-    {"in the third one", "shared", SHARED "shared.img", SHARED "shared.img"},
-    {"in all of them", "all", OWN "all.img", OWN "all.img"},
-    {"in the last two", "both", MADE "both.img", MADE "both.img"},
-    {"a link to an image", "link", OWN "link.img", OWN "link.img"},
-    {"with a blank and a dot", "a b.c", OWN "a b.c.img", OWN "a b.c.img"},
-    {"no ASCII", "あ", SHARED "あ.img", SHARED "あ.img"},
-    {"a file here", "here", ITSELF, MADE "here.img"},
-    {"a pipe here", "fifo", ITSELF, MADE "fifo.img"},
-    {"a directory here", "folder", MADE "folder.img", MADE "folder.img"},
-    {"a broken link here", "broken", MADE "broken.img", MADE "broken.img"},
-    {"a file here that is no image", "text", ITSELF, NONE},
-    {"an image that is a directory", "directory", NONE, NONE},
-    {"an image that is a pipe", "pipe", NONE, NONE},
-    {"an image that is a broken link", "lost", NONE, NONE},
-    {"a name with its ending", "own.img", NONE, NONE},
-    {"no image", "none", NONE, NONE},
-    {"no name", "", ITSELF, NONE},
-    {"a path", "./own", ITSELF, NONE},
-    {"a path of no file", "no/own", ITSELF, NONE},
-    {"an absolute path", "/own", ITSELF, NONE},
-    {"NULL", NULL, NONE, NONE},
+    {"in the first directory", "own", OWN "own.img"},
+    {"in the second one", "made", MADE "made.img"},
+    {"in the third one", "shared", SHARED "shared.img"},
+    {"in all of them", "all", OWN "all.img"},
+    {"in the last two", "both", MADE "both.img"},
+    {"a link to an image", "link", OWN "link.img"},
+    {"with a blank and a dot", "a b.c", OWN "a b.c.img"},
+    {"no ASCII", "あ", SHARED "あ.img"},
+    {"a file here", "here", ITSELF},
+    {"a pipe here", "fifo", ITSELF},
+    {"a directory here", "folder", MADE "folder.img"},
+    {"a broken link here", "broken", MADE "broken.img"},
+    {"a file here that is no image", "text", ITSELF},
+    {"an image that is a directory", "directory", NONE},
+    {"an image that is a pipe", "pipe", NONE},
+    {"an image that is a broken link", "lost", NONE},
+    {"a name with its ending", "own.img", NONE},
+    {"no image", "none", NONE},
+    {"no name", "", ITSELF},
+    {"a path", "./own", ITSELF},
+    {"a path of no file", "no/own", ITSELF},
+    {"an absolute path", "/own", ITSELF},
 };
 
 static void check_find(const char *what, const request *of, const char *folder,
@@ -122,44 +154,93 @@ static void check_find(const char *what, const request *of, const char *folder,
     }
 }
 
-static void check_names(const char *folder, const char *prefix) {
-    for (size_t i = 0; i < COUNT_OF(NAMES); i++) {
-        request image = {kumquatsieve_find_image, NULL, NAMES[i].name, prefix};
-        request installed = {kumquatsieve_find_installed, NULL, NAMES[i].name, prefix};
-        check_find(NAMES[i].what, &image, folder, NAMES[i].image);
-        check_find(NAMES[i].what, &installed, folder, NAMES[i].installed);
-    }
+static void check_names(const char *folder) {
+    for (size_t i = 0; i < COUNT_OF(NAMES); i++)
+        check_find(NAMES[i].what, &(request){NULL, NAMES[i].name}, folder, NAMES[i].image);
 }
 
-/* Which directories are searched without a prefix, and without a variable. */
-static void check_searched(const char *folder, const char *prefix) {
-    request own = {kumquatsieve_find_image, NULL, "link", NULL};
-    request made = {kumquatsieve_find_image, NULL, "made", NULL};
-    request names = {NULL, kumquatsieve_list_image_names, NULL, NULL};
-    check_find("own, no prefix", &own, folder, OWN "link.img");
-    check_find("made, no prefix", &made, folder, NONE);
-    check_result("names, no prefix", &names, "a b.c|all|link|own|");
-    names.prefix = made.prefix = own.prefix = prefix;
-    check_result("names", &names,
-                 "0|1|2|3|4|5|6|7|8|9|a b.c|all|both|broken|fifo|folder|here|link|made|own|shared|"
-                 "あ|");
+/* The images, those of the first directory that has the name, in byte order of the names. */
+static void check_lists(const char *folder) {
+    static const char *const ALL[] = {
+        MADE "0",    MADE "1",      MADE "2",        MADE "3",      MADE "4",    MADE "5",
+        MADE "6",    MADE "7",      MADE "8",        MADE "9",      OWN "a b.c", OWN "all",
+        MADE "both", MADE "broken", MADE "fifo",     MADE "folder", MADE "here", OWN "link",
+        MADE "made", OWN "own",     SHARED "shared", SHARED "あ"};
+    static char wanted[16 * ROOM];
+    const request list = {kumquatsieve_list_images, NULL};
+    for (size_t i = 0; i < COUNT_OF(ALL); i++) {
+        size_t used = strlen(wanted);
+        snprintf(wanted + used, sizeof wanted - used, "%s%s.img|", folder, ALL[i]);
+    }
+    size_t length = strlen(wanted), needed = 0;
+    char *out = malloc(length);
+    CHECK(out && call(&list, out, length - 1, &needed) == KUMQUATSIEVE_SHORT_BUFFER);
+    CHECK(needed == length && call(&list, out, length, &needed) == KUMQUATSIEVE_OK);
+    CHECK(is_result(out, needed, wanted));
+    free(out);
+}
+
+/* Which directories are searched without a variable, and elsewhere. */
+static void check_searched(const char *folder) {
+    const request made = {NULL, "made"}, own = {NULL, "own"},
+                  list = {kumquatsieve_list_images, NULL};
     set_variable("XDG_DATA_HOME", NULL);
-    check_find("own, no variable", &own, folder, NONE);
+    check_find("own, no variable", &own, folder, SHARED "own.img");
     check_find("made, no variable", &made, folder, MADE "made.img");
-    names.prefix = "/nowhere";
-    check_result("names, no directory", &names, "");
+    prefix = "/nowhere";
+    check_find("made, elsewhere", &made, folder, NONE);
+    check_result("names, no directory", &list, "");
+    prefix = NULL;
+    CHECK(call(&made, NULL, 0, NULL) == KUMQUATSIEVE_MEMORY);
+    CHECK(call(&list, NULL, 0, NULL) == KUMQUATSIEVE_MEMORY);
+}
+
+/* The image of a caller who names none. Only a file that starts as a system dictionary counts. */
+static void check_default(const char *folder) {
+    static const char SYSTEM[16] = "MJDICT\r\n\x03", USER[16] = "MJDICT\r\n\x03\0\0\0\x01";
+    const request none = {NULL, NULL};
+    char path[ROOM];
+    snprintf(path, sizeof path, "%s/default", folder);
+    prefix = path;
+    set_variable("KUMQUATSIEVE_DICTIONARY", NULL);
+    check_none("no image", &none);
+    CHECK(system("mkdir -p default/share/kumquatsieve") == 0);
+    for (int count = 0; count < 4; count++) {
+        char name[64];
+        snprintf(name, sizeof name, "default/share/kumquatsieve/%d.img", count);
+        FILE *to = fopen(name, "wb");
+        CHECK(to && fwrite(count % 2 ? SYSTEM : USER, 1, sizeof SYSTEM, to) == sizeof SYSTEM);
+        CHECK(fclose(to) == 0);
+        if (count == 0) check_none("a user's alone", &none);
+        if (count == 1 || count == 2)
+            check_find("one system image", &none, path, "/share/kumquatsieve/1.img");
+        if (count == 3) check_none("two system images", &none);
+    }
+    set_variable("KUMQUATSIEVE_DICTIONARY", "");
+    check_none("an empty variable", &none);
+    set_variable("KUMQUATSIEVE_DICTIONARY", "2");
+    check_find("a name", &none, path, "/share/kumquatsieve/2.img");
+    set_variable("KUMQUATSIEVE_DICTIONARY", "no-such-name");
+    check_none("a name of no image", &none);
+    set_variable("KUMQUATSIEVE_DICTIONARY", "./x");
+    check_find("a path", &none, ".", "/x");
+    set_variable("KUMQUATSIEVE_DICTIONARY", "default");
+    check_find("a folder", &none, "default", "/kumquatsieve.img");
 }
 
 int main(int given, char **arguments) {
-    char path[ROOM];
+    char path[ROOM], installed[ROOM];
     CHECK(given == 2);
     check_directories();
     snprintf(path, sizeof path, "%s/data", arguments[1]);
     set_variable("XDG_DATA_HOME", path);
     set_variable("HOME", NULL);
-    snprintf(path, sizeof path, "%s/prefix", arguments[1]);
-    check_names(arguments[1], path);
-    check_searched(arguments[1], path);
+    snprintf(installed, sizeof installed, "%s/prefix", arguments[1]);
+    prefix = installed;
+    check_names(arguments[1]);
+    check_lists(arguments[1]);
+    check_searched(arguments[1]);
+    check_default(arguments[1]);
     printf("%zu cases of image directories, and %zu of names of images\n", COUNT_OF(DIRECTORIES),
            COUNT_OF(NAMES));
     return 0;

@@ -14,22 +14,27 @@ static const struct {
     {"only_blanks", "   ", 0, 0},
 };
 
-static void sizes_and_costs(kumquatsieve_cutter *cutter) {
-    size_t count = 9;
-    int64_t total = 99;
+static uint32_t segment(kumquatsieve_segmenter *segmenter, const char *text, size_t length,
+                        uint32_t flags, kumquatsieve_line *line) {
+    return kumquatsieve_segment(segmenter, text, length, flags, line, NULL);
+}
+
+static void sizes_and_costs(kumquatsieve_segmenter *segmenter) {
+    kumquatsieve_line line;
     for (size_t i = 0; i < COUNT_OF(SIZES); i++) {
         size_t length = strlen(SIZES[i].line);
-        CHECK_CASE(SIZES[i].what, kumquatsieve_cut(cutter, BYTES(SIZES[i].line), length, &count,
-                                                   &total, NULL) == KUMQUATSIEVE_OK);
-        CHECK_CASE(SIZES[i].what, count == SIZES[i].count && total == SIZES[i].total);
-        count = 9, total = 99;
-        CHECK_CASE(SIZES[i].what, kumquatsieve_cut_text(cutter, BYTES(SIZES[i].line), length,
-                                                        &count, &total, NULL) == KUMQUATSIEVE_OK);
-        CHECK_CASE(SIZES[i].what, count == SIZES[i].count && total == SIZES[i].total);
+        for (uint32_t flags = 0; flags <= KUMQUATSIEVE_WHOLE; flags += KUMQUATSIEVE_WHOLE) {
+            line = (kumquatsieve_line){9, 9, 99, 9};
+            CHECK_CASE(SIZES[i].what,
+                       segment(segmenter, SIZES[i].line, length, flags, &line) == KUMQUATSIEVE_OK);
+            CHECK_CASE(SIZES[i].what, line.count == SIZES[i].count &&
+                                          line.total == SIZES[i].total && line.end == length &&
+                                          line.replaced == 0);
+        }
     }
-    CHECK(kumquatsieve_cut_text(cutter, BYTES("も\nも"), strlen("も\nも"), &count, &total, NULL) ==
+    CHECK(segment(segmenter, "も\nも", strlen("も\nも"), KUMQUATSIEVE_WHOLE, &line) ==
               KUMQUATSIEVE_OK &&
-          count == 3 && total == 1069);
+          line.count == 3 && line.total == 1069);
 }
 
 static const struct {
@@ -45,242 +50,201 @@ static const struct {
     {"tokyo_tie", "東京都", "東京\t未知\n都\t未知\nEOS\n"},
 };
 
-static void printed_lines(kumquatsieve_cutter *cutter) {
+static void printed_lines(kumquatsieve_segmenter *segmenter) {
     for (size_t i = 0; i < COUNT_OF(PRINTED_LINES); i++) {
         const char *line = PRINTED_LINES[i].line;
-        CHECK_CASE(PRINTED_LINES[i].what,
-                   cut(cutter, line) == KUMQUATSIEVE_OK && prints(cutter, PRINTED_LINES[i].output));
-        CHECK_CASE(PRINTED_LINES[i].what,
-                   kumquatsieve_cut_text(cutter, BYTES(line), strlen(line), NULL, NULL, NULL) ==
-                       KUMQUATSIEVE_OK);
-        CHECK_CASE(PRINTED_LINES[i].what, prints(cutter, PRINTED_LINES[i].output));
+        CHECK_CASE(PRINTED_LINES[i].what, cut(segmenter, line) == KUMQUATSIEVE_OK &&
+                                              prints(segmenter, PRINTED_LINES[i].output));
+        CHECK_CASE(PRINTED_LINES[i].what, segment(segmenter, line, strlen(line), KUMQUATSIEVE_WHOLE,
+                                                  NULL) == KUMQUATSIEVE_OK);
+        CHECK_CASE(PRINTED_LINES[i].what, prints(segmenter, PRINTED_LINES[i].output));
     }
 }
 
-static uint8_t letters[LONGEST + 1], bad_bytes[LONGEST + 1];
+static char letters[LONGEST + 1], bad_bytes[LONGEST + 1];
 
 static const struct {
     const char *what;
-    const uint8_t *bytes;
+    const char *bytes;
     size_t length;
     uint32_t as_line, as_text;
 } REFUSED[] = {
-    {"a line feed", BYTES("も\nも"), 7, KUMQUATSIEVE_LINE_FEED, KUMQUATSIEVE_OK},
-    {"a line feed alone", BYTES("\n"), 1, KUMQUATSIEVE_LINE_FEED, KUMQUATSIEVE_OK},
-    {"a line feed, then no text", BYTES("ab\n\xff"), 4, KUMQUATSIEVE_LINE_FEED,
-     KUMQUATSIEVE_NOT_UTF8},
-    {"no text", BYTES("a\xff"), 2, KUMQUATSIEVE_NOT_UTF8, KUMQUATSIEVE_NOT_UTF8},
+    {"a line feed", "も\nも", 7, KUMQUATSIEVE_LINE_FEED, KUMQUATSIEVE_OK},
+    {"a line feed alone", "\n", 1, KUMQUATSIEVE_LINE_FEED, KUMQUATSIEVE_OK},
+    {"a line feed, then no text", "ab\n\xff", 4, KUMQUATSIEVE_LINE_FEED, KUMQUATSIEVE_NOT_UTF8},
+    {"no text", "a\xff", 2, KUMQUATSIEVE_NOT_UTF8, KUMQUATSIEVE_NOT_UTF8},
     {"too long", letters, sizeof letters, KUMQUATSIEVE_TOO_LONG, KUMQUATSIEVE_TOO_LONG},
     {"too long, no text", bad_bytes, sizeof bad_bytes, KUMQUATSIEVE_TOO_LONG,
      KUMQUATSIEVE_TOO_LONG},
 };
 
-static void refused_texts(kumquatsieve_cutter *cutter) {
+static void refused_texts(kumquatsieve_segmenter *segmenter) {
     memset(letters, 'z', sizeof letters);
     memset(bad_bytes, 0xff, sizeof bad_bytes);
-    CHECK(cut(cutter, "もも") == KUMQUATSIEVE_OK);
+    CHECK(cut(segmenter, "もも") == KUMQUATSIEVE_OK);
     for (size_t i = 0; i < COUNT_OF(REFUSED); i++) {
-        CHECK_CASE(REFUSED[i].what, kumquatsieve_cut(cutter, REFUSED[i].bytes, REFUSED[i].length,
-                                                     NULL, NULL, NULL) == REFUSED[i].as_line);
+        CHECK_CASE(REFUSED[i].what, segment(segmenter, REFUSED[i].bytes, REFUSED[i].length, 0,
+                                            NULL) == REFUSED[i].as_line);
         if (REFUSED[i].as_text != KUMQUATSIEVE_OK) {
-            CHECK_CASE(REFUSED[i].what,
-                       kumquatsieve_cut_text(cutter, REFUSED[i].bytes, REFUSED[i].length, NULL,
-                                             NULL, NULL) == REFUSED[i].as_text);
+            CHECK_CASE(REFUSED[i].what, segment(segmenter, REFUSED[i].bytes, REFUSED[i].length,
+                                                KUMQUATSIEVE_WHOLE, NULL) == REFUSED[i].as_text);
         }
-        CHECK_CASE(REFUSED[i].what, prints(cutter, MOMO));
+        CHECK_CASE(REFUSED[i].what, prints(segmenter, MOMO));
     }
-    CHECK(kumquatsieve_cut(cutter, letters, LONGEST, NULL, NULL, NULL) == KUMQUATSIEVE_OK);
+    CHECK(segment(segmenter, letters, LONGEST, 0, NULL) == KUMQUATSIEVE_OK);
 }
 
-/* The words of ` すもも z`, and what a buffer has before a call. The first word is the first line
-   of the lexicon. The second one is the entry of ALPHA, which follows the three of the lexicon and
-   those of DEFAULT and SPACE. The connection from BOS costs 10, and the one between the words 7. */
-static const kumquatsieve_word BLANK = {
-    .place = 9,
-    .start = 9,
-    .end = 9,
-    .dictionary = 9,
-    .token = 9,
-    .left = 9,
-    .right = 9,
-    .cost = 9,
-    .known = 9,
-    .category = 9,
-    .total = 9,
-    .feature_length = 9,
-};
-static const kumquatsieve_word SUMOMO = {
-    .place = 0,
-    .start = 1,
-    .end = 10,
-    .token = 0,
-    .left = 1,
-    .right = 1,
-    .cost = 100,
-    .known = 1,
-    .category = 5,
-    .total = 110,
-    .feature_length = 16,
-};
-static const kumquatsieve_word Z = {
-    .place = 10,
-    .start = 11,
-    .end = 12,
-    .token = 5,
-    .left = 1,
-    .right = 1,
-    .cost = 1000,
-    .known = 0,
-    .category = 2,
-    .total = 1117,
-    .feature_length = 6,
+/* The words of ` すもも z`. The first one is the first line of the lexicon. The second one is the
+   entry of ALPHA, which follows the three of the lexicon and those of DEFAULT and SPACE. The
+   connection from BOS costs 10, and the one between the words 7. */
+static const kumquatsieve_word WORDS[] = {
+    {
+        .place = 0,
+        .start = 1,
+        .end = 10,
+        .token = 0,
+        .left_id = 1,
+        .right_id = 1,
+        .cost = 100,
+        .known = 1,
+        .category = 5,
+        .total = 110,
+        .feature_length = 16,
+        .feature_offset = 0,
+    },
+    {
+        .place = 10,
+        .start = 11,
+        .end = 12,
+        .token = 5,
+        .left_id = 1,
+        .right_id = 1,
+        .cost = 1000,
+        .known = 0,
+        .category = 2,
+        .total = 1117,
+        .feature_length = 6,
+        .feature_offset = 16,
+    },
 };
 
-static int is_word(const kumquatsieve_word *word, const kumquatsieve_word *wanted) {
+static bool is_word(const kumquatsieve_word *word, const kumquatsieve_word *wanted) {
     return word->place == wanted->place && word->start == wanted->start &&
            word->end == wanted->end && word->dictionary == wanted->dictionary &&
-           word->token == wanted->token && word->left == wanted->left &&
-           word->right == wanted->right && word->cost == wanted->cost &&
+           word->token == wanted->token && word->left_id == wanted->left_id &&
+           word->right_id == wanted->right_id && word->cost == wanted->cost &&
            word->known == wanted->known && word->category == wanted->category &&
-           word->total == wanted->total && word->feature_length == wanted->feature_length;
+           word->total == wanted->total && word->feature_length == wanted->feature_length &&
+           word->feature_offset == wanted->feature_offset;
 }
 
-static const struct {
-    const char *what;
-    size_t first, room;
-    const kumquatsieve_word *after[3];
-} WORDS[] = {
-    {"both, with room for more", 0, 3, {&SUMOMO, &Z, &BLANK}},
-    {"both, with room for both", 0, 2, {&SUMOMO, &Z, &BLANK}},
-    {"room for one", 0, 1, {&SUMOMO, &BLANK, &BLANK}},
-    {"no room", 0, 0, {&BLANK, &BLANK, &BLANK}},
-    {"the second", 1, 3, {&Z, &BLANK, &BLANK}},
-    {"none behind the last", 2, 3, {&BLANK, &BLANK, &BLANK}},
-    {"far behind the last", SIZE_MAX, 3, {&BLANK, &BLANK, &BLANK}},
-};
-
-static void words_from_a_number_on(kumquatsieve_cutter *cutter) {
-    CHECK(cut(cutter, " すもも z") == KUMQUATSIEVE_OK);
+/* The words stay while other results are borrowed. */
+static void words_and_features(kumquatsieve_segmenter *segmenter) {
+    const kumquatsieve_word *words = NULL, *again = NULL;
+    const char *features = NULL, *feature = NULL;
+    size_t count = 99, length = 0;
+    CHECK(cut(segmenter, " すもも z") == KUMQUATSIEVE_OK);
+    CHECK(kumquatsieve_words(segmenter, &words, &count, NULL) == KUMQUATSIEVE_OK && count == 2);
+    CHECK(kumquatsieve_nodes(segmenter, NULL, NULL, NULL) == KUMQUATSIEVE_OK);
+    CHECK(kumquatsieve_words(segmenter, &again, &count, NULL) == KUMQUATSIEVE_OK && again == words);
     for (size_t i = 0; i < COUNT_OF(WORDS); i++) {
-        kumquatsieve_word words[3] = {BLANK, BLANK, BLANK};
-        size_t count = 99;
-        CHECK_CASE(WORDS[i].what, kumquatsieve_words(cutter, WORDS[i].first, words, WORDS[i].room,
-                                                     &count) == KUMQUATSIEVE_OK &&
-                                      count == 2);
-        for (int k = 0; k < 3; k++)
-            CHECK_CASE(WORDS[i].what, is_word(&words[k], WORDS[i].after[k]));
+        CHECK(kumquatsieve_feature(segmenter, &words[i], &feature, &length, NULL) ==
+              KUMQUATSIEVE_OK);
+        CHECK(is_text(feature, length, i == 0 ? "名詞,すもも" : "未知"));
     }
+    CHECK(kumquatsieve_features(segmenter, &features, &length, NULL) == KUMQUATSIEVE_OK &&
+          is_text(features, length, "名詞,すもも未知"));
+    for (size_t i = 0; i < COUNT_OF(WORDS); i++) CHECK(is_word(&words[i], &WORDS[i]));
+    CHECK(cut(segmenter, "   ") == KUMQUATSIEVE_OK &&
+          kumquatsieve_features(segmenter, &features, &length, NULL) == KUMQUATSIEVE_OK &&
+          length == 0);
+    CHECK(kumquatsieve_words(segmenter, &words, &count, NULL) == KUMQUATSIEVE_OK && count == 0);
 }
 
-static const struct {
-    size_t number;
-    const char *feature;
-} FEATURES[] = {{0, "名詞,すもも"}, {1, "未知"}};
-
-static void features(kumquatsieve_cutter *cutter) {
-    const uint8_t *feature = NULL;
-    size_t length = 0;
-    for (size_t i = 0; i < COUNT_OF(FEATURES); i++) {
-        CHECK_CASE(FEATURES[i].feature, kumquatsieve_feature(cutter, FEATURES[i].number, &feature,
-                                                             &length) == KUMQUATSIEVE_OK);
-        CHECK_CASE(FEATURES[i].feature, is_text(feature, length, FEATURES[i].feature));
-    }
-    CHECK(kumquatsieve_feature(cutter, 2, &feature, &length) == KUMQUATSIEVE_NO_WORD);
-    CHECK(kumquatsieve_features(cutter, &feature, &length) == KUMQUATSIEVE_OK &&
-          is_text(feature, length, "名詞,すもも未知"));
-    CHECK(cut(cutter, "   ") == KUMQUATSIEVE_OK &&
-          kumquatsieve_features(cutter, &feature, &length) == KUMQUATSIEVE_OK && length == 0);
+static uint32_t words_code(kumquatsieve_segmenter *segmenter) {
+    return kumquatsieve_words(segmenter, NULL, NULL, NULL);
 }
 
-typedef enum asked { PATH, FEATURE, FAULT } asked;
+static uint32_t print_code(kumquatsieve_segmenter *segmenter) {
+    return kumquatsieve_print(segmenter, NULL, NULL, NULL);
+}
 
+/* Each call that forgets the line, and one that keeps it. */
+static void forgotten(kumquatsieve_segmenter *segmenter) {
+    for (int i = 0; i < 5; i++) {
+        CHECK(i == 0 || cut(segmenter, LINE) == KUMQUATSIEVE_OK);
+        CHECK(i == 0 || words_code(segmenter) == KUMQUATSIEVE_OK);
+        if (i == 1) CHECK(kumquatsieve_set_grouping(segmenter, 24, NULL) == KUMQUATSIEVE_OK);
+        if (i == 2)
+            CHECK(kumquatsieve_parse_lines(segmenter, "a", 1, NULL, NULL, NULL, NULL) ==
+                  KUMQUATSIEVE_OK);
+        if (i == 3) CHECK(kumquatsieve_shrink(segmenter, NULL) == KUMQUATSIEVE_OK);
+        if (i == 4) CHECK(set_texts(segmenter, "%m", NULL, NULL, "") == KUMQUATSIEVE_OK);
+        uint32_t wanted = i < 4 ? KUMQUATSIEVE_NOTHING_SEGMENTED : KUMQUATSIEVE_OK;
+        CHECK(words_code(segmenter) == wanted && print_code(segmenter) == wanted);
+    }
+    CHECK(prints(segmenter, LINE) &&
+          set_texts(segmenter, NULL, NULL, NULL, NULL) == KUMQUATSIEVE_OK);
+}
+
+/* A text of several lines: the code, the number of its lines or of the invalid line, and the
+   output. */
 static const struct {
-    const char *what;
-    asked asked;
-    uint32_t number;
-    size_t room;
+    const char *what, *text;
     uint32_t code;
-    size_t needed;
-    const char *written;
-} BUFFERS[] = {
-    {"no room for the path", PATH, 0, 0, KUMQUATSIEVE_SHORT_BUFFER, 31, ""},
-    {"a byte less than it", PATH, 0, 30, KUMQUATSIEVE_SHORT_BUFFER, 31, ""},
-    {"exactly its length", PATH, 0, 31, KUMQUATSIEVE_OK, 31, "すもも\t名詞,すもも\nEOS\n"},
-    {"a byte more", PATH, 0, 32, KUMQUATSIEVE_OK, 31, "すもも\t名詞,すもも\nEOS\n"},
-    {"no room for the feature", FEATURE, 0, 0, KUMQUATSIEVE_SHORT_BUFFER, 16, ""},
-    {"a byte less than that", FEATURE, 0, 15, KUMQUATSIEVE_SHORT_BUFFER, 16, ""},
-    {"exactly that", FEATURE, 0, 16, KUMQUATSIEVE_OK, 16, "名詞,すもも"},
-    {"a byte more than that", FEATURE, 0, 17, KUMQUATSIEVE_OK, 16, "名詞,すもも"},
-    {"no room for a fault's text", FAULT, 0x4b03, 0, KUMQUATSIEVE_SHORT_BUFFER, 9, ""},
-    {"a byte less than the text", FAULT, 0x4b03, 8, KUMQUATSIEVE_SHORT_BUFFER, 9, ""},
-    {"exactly the text", FAULT, 0x4b03, 9, KUMQUATSIEVE_OK, 9, "K3 Shared"},
-    {"a byte more than the text", FAULT, 0x4b03, 10, KUMQUATSIEVE_OK, 9, "K3 Shared"},
-    {"memory has a name alone", FAULT, 1, 32, KUMQUATSIEVE_OK, 6, "Memory"},
-    {"a code of an image", FAULT, 0x4c04, 32, KUMQUATSIEVE_OK, 13, "L4 BadSection"},
-    {"a byte less than a file's code", FAULT, 0x4601, 6, KUMQUATSIEVE_SHORT_BUFFER, 7, ""},
-    {"a code of a file", FAULT, 0x4601, 7, KUMQUATSIEVE_OK, 7, "F1 File"},
-    {"a code of a text", FAULT, 0x4703, 32, KUMQUATSIEVE_OK, 10, "G3 NotUtf8"},
-    {"no fault's code", FAULT, 78, 0, KUMQUATSIEVE_OK, 0, ""},
+    uint64_t lines;
+    const char *printed;
+} TEXT_LINES[] = {
+    {"an empty text", "", KUMQUATSIEVE_OK, 0, ""},
+    {"a line feed alone", "\n", KUMQUATSIEVE_OK, 1, "EOS\n"},
+    {"empty lines", "\n\n", KUMQUATSIEVE_OK, 2, "EOS\nEOS\n"},
+    {"blanks alone", "  \n ", KUMQUATSIEVE_OK, 2, "EOS\nEOS\n"},
+    {"CR LF: the CR is no blank", "\r\n\n", KUMQUATSIEVE_OK, 2, "\r\t未知\nEOS\nEOS\n"},
+    {"one line", LINE "\n", KUMQUATSIEVE_OK, 1, PRINTED},
+    {"two lines", LINE "\n" LINE "\n", KUMQUATSIEVE_OK, 2, PRINTED PRINTED},
+    {"no line feed at the end", "\n" LINE, KUMQUATSIEVE_OK, 2, "EOS\n" PRINTED},
+    {"CR LF: the CR is a character", "\r\n" LINE "\n", KUMQUATSIEVE_OK, 2,
+     "\r\t未知\nEOS\n" PRINTED},
+    {"bad UTF-8 in line 3", LINE "\n\na\xff\n" LINE "\n", KUMQUATSIEVE_NOT_UTF8, 3,
+     PRINTED "EOS\n"},
+    {"bad UTF-8 behind empty lines", "\n\na\xff\nb\n", KUMQUATSIEVE_NOT_UTF8, 3, "EOS\nEOS\n"},
+    {"bad UTF-8 in a last line behind an empty one", "\n\xff", KUMQUATSIEVE_NOT_UTF8, 2, "EOS\n"},
+    {"bad UTF-8 in a last line without a line feed", LINE "\na\xff", KUMQUATSIEVE_NOT_UTF8, 2,
+     PRINTED},
 };
 
-static uint32_t copied(kumquatsieve_cutter *cutter, asked asked, uint32_t number, uint8_t *out,
-                       size_t room, size_t *needed) {
-    switch (asked) {
-    case PATH: return kumquatsieve_copy_print(cutter, out, room, needed);
-    case FEATURE: return kumquatsieve_copy_feature(cutter, number, out, room, needed);
-    default: return kumquatsieve_fault(number, out, room, needed);
+static void text_lines(kumquatsieve_segmenter *segmenter) {
+    for (size_t i = 0; i < COUNT_OF(TEXT_LINES); i++) {
+        const char *text = TEXT_LINES[i].text, *output = NULL;
+        size_t length = 0;
+        uint64_t lines = 0;
+        CHECK_CASE(TEXT_LINES[i].what,
+                   kumquatsieve_parse_lines(segmenter, text, strlen(text), &output, &length, &lines,
+                                            NULL) == TEXT_LINES[i].code);
+        CHECK_CASE(TEXT_LINES[i].what,
+                   lines == TEXT_LINES[i].lines && is_text(output, length, TEXT_LINES[i].printed));
     }
 }
 
-static void buffers(kumquatsieve_cutter *cutter) {
-    CHECK(cut(cutter, "すもも") == KUMQUATSIEVE_OK);
-    for (size_t i = 0; i < COUNT_OF(BUFFERS); i++) {
-        uint8_t out[32];
-        size_t needed = 99, written = strlen(BUFFERS[i].written);
-        memset(out, '#', sizeof out);
-        CHECK_CASE(BUFFERS[i].what, copied(cutter, BUFFERS[i].asked, BUFFERS[i].number, out,
-                                           BUFFERS[i].room, &needed) == BUFFERS[i].code);
-        CHECK_CASE(BUFFERS[i].what,
-                   needed == BUFFERS[i].needed && memcmp(out, BUFFERS[i].written, written) == 0);
-        for (size_t k = written; k < sizeof out; k++) CHECK_CASE(BUFFERS[i].what, out[k] == '#');
-    }
-}
-
-static void nothing_cut(kumquatsieve_cutter *cutter) {
-    kumquatsieve_word word = BLANK;
-    uint8_t out[32];
-    size_t count = 0;
-    CHECK(kumquatsieve_words(cutter, 0, &word, 1, &count) == KUMQUATSIEVE_NOTHING_CUT &&
-          is_word(&word, &BLANK));
-    CHECK(kumquatsieve_copy_print(cutter, out, sizeof out, &count) == KUMQUATSIEVE_NOTHING_CUT);
-    CHECK(kumquatsieve_copy_feature(cutter, 0, out, sizeof out, &count) ==
-          KUMQUATSIEVE_NOTHING_CUT);
-    CHECK(cut(cutter, "すもも") == KUMQUATSIEVE_OK);
-    CHECK(kumquatsieve_copy_feature(cutter, 1, out, sizeof out, &count) == KUMQUATSIEVE_NO_WORD);
-    CHECK(kumquatsieve_copy_print(cutter, out, sizeof out, &count) == KUMQUATSIEVE_OK &&
-          count == 31);
-}
-
-static void line_feed_in_a_text(kumquatsieve_cutter *cutter) {
-    CHECK(set_texts(cutter, "%m|", "%m|", "", "\\n") == KUMQUATSIEVE_OK);
-    CHECK(kumquatsieve_cut_text(cutter, BYTES("も\nも"), strlen("も\nも"), NULL, NULL, NULL) ==
+static void line_feed_in_a_text(kumquatsieve_segmenter *segmenter) {
+    CHECK(set_texts(segmenter, "%m|", "%m|", "", "\\n") == KUMQUATSIEVE_OK);
+    CHECK(segment(segmenter, "も\nも", strlen("も\nも"), KUMQUATSIEVE_WHOLE, NULL) ==
               KUMQUATSIEVE_OK &&
-          prints(cutter, "も|\n|も|\n"));
+          prints(segmenter, "も|\n|も|\n"));
 }
 
 int main(int given, char **paths) {
     CHECK(given == 2);
     file system = read_file(paths[1]);
-    kumquatsieve_cutter cutter = loaded(system);
-    nothing_cut(&cutter);
-    sizes_and_costs(&cutter);
-    printed_lines(&cutter);
-    refused_texts(&cutter);
-    words_from_a_number_on(&cutter);
-    features(&cutter);
-    buffers(&cutter);
-    line_feed_in_a_text(&cutter);
-    kumquatsieve_free(&cutter);
+    kumquatsieve_segmenter segmenter = loaded(system);
+    forgotten(&segmenter);
+    sizes_and_costs(&segmenter);
+    printed_lines(&segmenter);
+    refused_texts(&segmenter);
+    words_and_features(&segmenter);
+    text_lines(&segmenter);
+    line_feed_in_a_text(&segmenter);
+    kumquatsieve_segmenter_close(&segmenter);
     free(system.bytes);
     puts("lines: each row is as its table says");
     return 0;

@@ -34,6 +34,18 @@ static inline size_t open_files(void) {
     return count;
 }
 
+/* Fills an empty segmenter over the dictionary in a file, with a user dictionary unless `user` is
+   NULL. */
+static inline uint32_t open_paths(kumquatsieve_segmenter *segmenter, const char *path,
+                                  const char *user, uint32_t flags, kumquatsieve_error *error) {
+    kumquatsieve_dictionary *dictionary = NULL;
+    uint32_t code =
+        kumquatsieve_dictionary_open(&dictionary, path, &user, user ? 1 : 0, flags, error);
+    if (code == KUMQUATSIEVE_OK) code = kumquatsieve_segmenter_open(segmenter, dictionary, error);
+    kumquatsieve_dictionary_release(dictionary);
+    return code;
+}
+
 static inline void write_file(const char *path, const void *bytes, size_t length) {
     FILE *opened = fopen(path, "wb");
     CHECK_CASE(path, opened && fwrite(bytes, 1, length, opened) == length && fclose(opened) == 0);

@@ -4,7 +4,7 @@
    other chain ends as late, so the words without the blank are dead ends. */
 #include "helpers.h"
 
-enum { MOST_NODES = 32, MOST_WORDS = 16, BOS_COSTS = 10, CONNECTION_COSTS = 7, EOS_COSTS = 5 };
+enum { MOST_NODES = 32, BOS_COSTS = 10, CONNECTION_COSTS = 7, EOS_COSTS = 5 };
 
 /* A node: the place of its word, its entry, its word cost and its feature, its total, and the least
    cost of the paths that have it. */
@@ -88,76 +88,58 @@ static int is_node(const kumquatsieve_node *node, const node_row *wanted) {
     const kumquatsieve_word *word = &node->word;
     return word->place == wanted->place && word->start == wanted->start &&
            word->end == wanted->end && word->dictionary == wanted->dictionary &&
-           word->token == wanted->token && word->left == 1 && word->right == 1 &&
+           word->token == wanted->token && word->left_id == 1 && word->right_id == 1 &&
            word->cost == wanted->cost && word->known == wanted->known &&
            word->category == wanted->category && word->total == wanted->total &&
            word->feature_length == strlen(wanted->feature) && node->through == wanted->through &&
            node->reaches_end == wanted->reaches_end && node->on_best == wanted->on_best;
 }
 
-static int has_feature(kumquatsieve_cutter *cutter, const kumquatsieve_word *word,
+static int has_feature(kumquatsieve_segmenter *segmenter, const kumquatsieve_word *word,
                        const char *wanted) {
-    const uint8_t *feature = NULL;
+    const char *feature = NULL;
     size_t length = 99;
-    return kumquatsieve_entry_feature(cutter, word->known, word->dictionary, word->token, &feature,
-                                      &length) == KUMQUATSIEVE_OK &&
+    return kumquatsieve_feature(segmenter, word, &feature, &length, NULL) == KUMQUATSIEVE_OK &&
            is_text(feature, length, wanted);
 }
 
-static size_t cut_nodes(kumquatsieve_cutter *cutter, const char *line, kumquatsieve_node *nodes,
-                        int64_t *best) {
+static size_t cut_nodes(kumquatsieve_segmenter *segmenter, const char *line,
+                        const kumquatsieve_node **nodes, int64_t *best) {
+    kumquatsieve_line found;
     size_t count = 0;
-    CHECK(kumquatsieve_cut(cutter, BYTES(line), strlen(line), NULL, best, NULL) == KUMQUATSIEVE_OK);
-    CHECK(kumquatsieve_nodes(cutter, 0, nodes, MOST_NODES, &count) == KUMQUATSIEVE_OK &&
+    CHECK(kumquatsieve_segment(segmenter, line, strlen(line), 0, &found, NULL) == KUMQUATSIEVE_OK);
+    CHECK(kumquatsieve_nodes(segmenter, nodes, &count, NULL) == KUMQUATSIEVE_OK &&
           count <= MOST_NODES);
+    *best = found.total;
     return count;
 }
 
-static void lattices(kumquatsieve_cutter *cutter) {
+static void lattices(kumquatsieve_segmenter *segmenter) {
     for (size_t i = 0; i < COUNT_OF(LATTICES); i++) {
         const lattice_row *row = &LATTICES[i];
-        kumquatsieve_node nodes[MOST_NODES];
+        const kumquatsieve_node *nodes = NULL;
         int64_t best = 99;
-        CHECK_CASE(row->what,
-                   cut_nodes(cutter, row->line, nodes, &best) == row->count && best == row->best);
+        CHECK_CASE(row->what, cut_nodes(segmenter, row->line, &nodes, &best) == row->count &&
+                                  best == row->best);
         for (size_t k = 0; k < row->count; k++) {
             CHECK_CASE(row->what, is_node(&nodes[k], &row->nodes[k]));
-            CHECK_CASE(row->what, has_feature(cutter, &nodes[k].word, row->nodes[k].feature));
+            CHECK_CASE(row->what, has_feature(segmenter, &nodes[k].word, row->nodes[k].feature));
         }
     }
 }
 
-/* Reads of nodes from a number on, with less room. The rest of the buffer is unchanged. */
-static const struct {
-    const char *what;
-    size_t first, room, written;
-} PARTS[] = {
-    {"all, with room for more", 0, 6, 4},
-    {"all", 0, 4, 4},
-    {"room for two", 0, 2, 2},
-    {"no room", 0, 0, 0},
-    {"from the second on", 1, 6, 3},
-    {"the last", 3, 6, 1},
-    {"none behind the last", 4, 6, 0},
-    {"far behind the last", SIZE_MAX, 6, 0},
-};
-
-static void nodes_from_a_number_on(kumquatsieve_cutter *cutter) {
-    const node_row *wanted = LATTICES[3].nodes;
-    CHECK(cut(cutter, LATTICES[3].line) == KUMQUATSIEVE_OK);
-    for (size_t i = 0; i < COUNT_OF(PARTS); i++) {
-        kumquatsieve_node nodes[6];
-        size_t count = 99;
-        memset(nodes, 0xaa, sizeof nodes);
-        CHECK_CASE(PARTS[i].what, kumquatsieve_nodes(cutter, PARTS[i].first, nodes, PARTS[i].room,
-                                                     &count) == KUMQUATSIEVE_OK &&
-                                      count == 4);
-        for (size_t k = 0; k < PARTS[i].written; k++)
-            CHECK_CASE(PARTS[i].what, is_node(&nodes[k], &wanted[PARTS[i].first + k]));
-        const uint8_t *bytes = (const uint8_t *)nodes;
-        for (size_t k = PARTS[i].written * sizeof *nodes; k < sizeof nodes; k++)
-            CHECK_CASE(PARTS[i].what, bytes[k] == 0xaa);
-    }
+/* More nodes than the library expects for so many bytes, twice. */
+static void many_nodes(kumquatsieve_segmenter *segmenter) {
+    enum { LENGTH = 60000 };
+    static char line[LENGTH + 1];
+    const kumquatsieve_node *nodes = NULL, *again = NULL;
+    size_t count = 0, all = 0;
+    for (size_t i = 0; i < LENGTH; i++) line[i] = "も"[i % 3];
+    CHECK(cut(segmenter, line) == KUMQUATSIEVE_OK);
+    CHECK(kumquatsieve_nodes(segmenter, &nodes, &count, NULL) == KUMQUATSIEVE_OK);
+    CHECK(count == 2 * (LENGTH / 3) - 1 && nodes[count - 1].word.end == LENGTH);
+    CHECK(cut(segmenter, "東京都") == KUMQUATSIEVE_OK);
+    CHECK(kumquatsieve_nodes(segmenter, &again, &all, NULL) == KUMQUATSIEVE_OK && all == 5);
 }
 
 static const struct {
@@ -180,12 +162,12 @@ static const struct {
     {"no unknown entry", false, 0, 9, ""},
 };
 
-static void features_of_entries(kumquatsieve_cutter *cutter) {
+static void features_of_entries(kumquatsieve_segmenter *segmenter) {
     for (size_t i = 0; i < COUNT_OF(ENTRIES); i++) {
         kumquatsieve_word word = {.known = ENTRIES[i].known,
                                   .dictionary = ENTRIES[i].dictionary,
                                   .token = ENTRIES[i].token};
-        CHECK_CASE(ENTRIES[i].what, has_feature(cutter, &word, ENTRIES[i].feature));
+        CHECK_CASE(ENTRIES[i].what, has_feature(segmenter, &word, ENTRIES[i].feature));
     }
 }
 
@@ -220,21 +202,19 @@ static void go_on(all_paths *paths, size_t place, int64_t cost) {
 static const char *const LINES[] = {"すもももも", "もももも",   "もすもも", "東京都",  "もabも",
                                     " も z ",     "もも もも ", "カタ も",  "もも 東 "};
 
-static void all_paths_agree(kumquatsieve_cutter *cutter) {
+static void all_paths_agree(kumquatsieve_segmenter *segmenter) {
     for (size_t k = 0; k < COUNT_OF(LINES); k++) {
-        kumquatsieve_node nodes[MOST_NODES];
-        kumquatsieve_word words[MOST_WORDS];
+        const kumquatsieve_node *nodes = NULL;
+        const kumquatsieve_word *words = NULL;
         int64_t best = 0, least = INT64_MAX;
-        size_t on_best = 0, many = 0;
-        all_paths paths = {.nodes = nodes, .count = cut_nodes(cutter, LINES[k], nodes, &best)};
+        size_t on_best = 0, many = 0, count = cut_nodes(segmenter, LINES[k], &nodes, &best);
+        all_paths paths = {.nodes = nodes, .count = count};
         for (size_t i = 0; i < paths.count; i++) {
             if (nodes[i].word.end > paths.last) paths.last = nodes[i].word.end;
             paths.totals[i] = paths.throughs[i] = INT64_MAX;
         }
         go_on(&paths, 0, 0);
-        CHECK_CASE(LINES[k],
-                   kumquatsieve_words(cutter, 0, words, MOST_WORDS, &many) == KUMQUATSIEVE_OK &&
-                       many <= MOST_WORDS);
+        CHECK_CASE(LINES[k], kumquatsieve_words(segmenter, &words, &many, NULL) == KUMQUATSIEVE_OK);
         for (size_t i = 0; i < paths.count; i++) {
             CHECK_CASE(LINES[k], nodes[i].word.total == paths.totals[i] &&
                                      nodes[i].reaches_end == (paths.throughs[i] < INT64_MAX));
@@ -255,13 +235,12 @@ static void all_paths_agree(kumquatsieve_cutter *cutter) {
 int main(int given, char **paths) {
     CHECK(given == 3);
     file system = read_file(paths[1]), user = read_file(paths[2]);
-    kumquatsieve_cutter cutter = loaded(system);
-    CHECK(load_user(&cutter, user, NULL) == KUMQUATSIEVE_OK);
-    lattices(&cutter);
-    nodes_from_a_number_on(&cutter);
-    features_of_entries(&cutter);
-    all_paths_agree(&cutter);
-    kumquatsieve_free(&cutter);
+    kumquatsieve_segmenter segmenter = loaded_with(system, user);
+    lattices(&segmenter);
+    many_nodes(&segmenter);
+    features_of_entries(&segmenter);
+    all_paths_agree(&segmenter);
+    kumquatsieve_segmenter_close(&segmenter);
     free(system.bytes);
     free(user.bytes);
     puts("nodes: each lattice has its nodes, and all paths of each line agree with them");

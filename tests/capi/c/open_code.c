@@ -1,4 +1,4 @@
-/* Opens an image and frees it, and prints the code: open_code HOW IMG [SYSTEM.img]. With
+/* Opens an image and frees it, and prints the code: open_code FLAGS IMG [SYSTEM.img]. With
    SYSTEM.img, IMG is a user image. Nothing is segmented, because an image that is accepted by its
    record may be invalid. The variable SWAP names two directories. The second one gets the name of
    the first one once a file was opened in that. Linked with --wrap=openat. */
@@ -27,15 +27,15 @@ int __wrap_openat(int folder, const char *name, int flags, ...) {
 }
 
 int main(int given, char **words) {
-    kumquatsieve_cutter cutter = KUMQUATSIEVE_EMPTY;
-    uint64_t number = 0;
+    kumquatsieve_dictionary *dictionary = NULL;
+    kumquatsieve_error error;
     CHECK(given == 3 || given == 4);
-    unsigned how = (unsigned)strtoul(words[1], NULL, 0);
-    if (given == 4)
-        CHECK(kumquatsieve_open(&cutter, words[3], KUMQUATSIEVE_COPY, NULL) == KUMQUATSIEVE_OK);
-    uint32_t code = given == 4 ? kumquatsieve_open_user(&cutter, words[2], how, &number)
-                               : kumquatsieve_open(&cutter, words[2], how, &number);
-    kumquatsieve_free(&cutter);
-    printf("%#x %llu\n", code, (unsigned long long)number);
+    uint32_t flags = (uint32_t)strtoul(words[1], NULL, 0);
+    const char *const users[] = {words[2]};
+    uint32_t code =
+        given == 4 ? kumquatsieve_dictionary_open(&dictionary, words[3], users, 1, flags, &error)
+                   : kumquatsieve_dictionary_open(&dictionary, words[2], NULL, 0, flags, &error);
+    kumquatsieve_dictionary_release(dictionary);
+    printf("%#x %llu\n", code, (unsigned long long)error.number);
     return 0;
 }

@@ -13,10 +13,10 @@
 #define WHOLE KUMQUATSIEVE_TEST_DIGEST
 #define COPY KUMQUATSIEVE_COPY
 
-enum { UNSET = 77, LAYOUT_AT = 8, LENGTHS_AT = 40, HEADER = 104, LONG_PATH = 5000 };
+enum { LAYOUT_AT = 8, LENGTHS_AT = 40, HEADER = 104, LONG_PATH = 5000 };
 
 static file sys, user;
-static char long_name[256 + 1], long_path[LONG_PATH + 1];
+static char long_name[258 + 1], long_path[LONG_PATH + 1];
 
 /* A file that is made of the system image: its length, and a byte that is changed. */
 typedef struct made_row {
@@ -63,119 +63,130 @@ static void make_others(void) {
     CHECK(mkdir("folder.img", 0700) == 0 && mkfifo("pipe", 0600) == 0);
     CHECK(symlink("none.img", "dangling.img") == 0 && symlink("loop.img", "loop.img") == 0);
     memset(long_name, 'a', sizeof long_name - 1);
+    memcpy(long_name, "./", 2);
     for (size_t i = 0; i < LONG_PATH; i++) long_path[i] = i % 2 ? '/' : '.';
 }
 
 /* A file to open, and the code and the number. */
 typedef struct refused_row {
     const char *what, *path;
-    unsigned how;
-    uint32_t code;
+    uint32_t flags, code;
     uint64_t number;
 } refused_row;
 
 static const refused_row AS_SYSTEM[] = {
-    {"no path", NULL, 0, KUMQUATSIEVE_FILE, EINVAL},
-    {"an unknown bit", "whole.img", 8, KUMQUATSIEVE_FILE, EINVAL},
-    {"the highest bit", "whole.img", ~(~0u >> 1), KUMQUATSIEVE_FILE, EINVAL},
+    {"an unknown bit", "whole.img", 64, KUMQUATSIEVE_BAD_ARGUMENT, 0},
+    {"the highest bit", "whole.img", ~(~0u >> 1), KUMQUATSIEVE_BAD_ARGUMENT, 0},
     {"an empty path", "", 0, KUMQUATSIEVE_FILE, ENOENT},
     {"no file", "none.img", 0, KUMQUATSIEVE_FILE, ENOENT},
     {"no folder", "none/whole.img", 0, KUMQUATSIEVE_FILE, ENOENT},
     {"a slash after a file", "whole.img/", 0, KUMQUATSIEVE_FILE, ENOTDIR},
     {"a file for a folder", "whole.img/x", 0, KUMQUATSIEVE_FILE, ENOTDIR},
-    {"a folder", "folder.img", 0, KUMQUATSIEVE_FILE, EISDIR},
+    {"a folder", "./folder.img", 0, KUMQUATSIEVE_FILE, EISDIR},
+    {"a bare name of a folder", "folder.img", 0, KUMQUATSIEVE_FILE, EISDIR},
     {"a folder and a slash", "folder.img/", 0, KUMQUATSIEVE_FILE, EISDIR},
-    {"this folder", ".", 0, KUMQUATSIEVE_FILE, EISDIR},
+    {"this folder", "./", 0, KUMQUATSIEVE_FILE, EISDIR},
     {"the root", "/", 0, KUMQUATSIEVE_FILE, EISDIR},
-    {"a folder, copied", "folder.img", COPY, KUMQUATSIEVE_FILE, EISDIR},
+    {"a folder, copied", "./folder.img", COPY, KUMQUATSIEVE_FILE, EISDIR},
     {"a link to nothing", "dangling.img", 0, KUMQUATSIEVE_FILE, ENOENT},
-    {"a link to itself", "loop.img", 0, KUMQUATSIEVE_FILE, ELOOP},
+    {"a link to itself", "./loop.img", 0, KUMQUATSIEVE_FILE, ELOOP},
     {"a socket", "socket", 0, KUMQUATSIEVE_FILE, ENXIO},
     {"a long name", long_name, 0, KUMQUATSIEVE_FILE, ENAMETOOLONG},
     {"a long path", long_path, 0, KUMQUATSIEVE_FILE, ENAMETOOLONG},
-    {"no byte", "empty.img", 0, KUMQUATSIEVE_TRUNCATED, UNSET},
-    {"no whole header", "103.img", 0, KUMQUATSIEVE_TRUNCATED, UNSET},
-    {"a header alone", "header.img", 0, KUMQUATSIEVE_TRUNCATED, UNSET},
-    {"a byte less", "shorter.img", 0, KUMQUATSIEVE_TRUNCATED, UNSET},
-    {"a byte less, copied", "shorter.img", COPY, KUMQUATSIEVE_TRUNCATED, UNSET},
+    {"no byte", "empty.img", 0, KUMQUATSIEVE_TRUNCATED, 0},
+    {"no whole header", "103.img", 0, KUMQUATSIEVE_TRUNCATED, 0},
+    {"a header alone", "header.img", 0, KUMQUATSIEVE_TRUNCATED, 0},
+    {"a byte less", "shorter.img", 0, KUMQUATSIEVE_TRUNCATED, 0},
+    {"a byte less, copied", "shorter.img", COPY, KUMQUATSIEVE_TRUNCATED, 0},
     {"a byte more", "longer.img", 0, KUMQUATSIEVE_BAD_SECTION, 9},
     {"a byte more, copied", "longer.img", COPY, KUMQUATSIEVE_BAD_SECTION, 9},
-    {"another magic", "magic.img", 0, KUMQUATSIEVE_BAD_MAGIC, UNSET},
+    {"another magic", "magic.img", 0, KUMQUATSIEVE_BAD_MAGIC, 0},
     {"another layout", "layout.img", 0, KUMQUATSIEVE_BAD_LAYOUT, 9},
-    {"lengths without end", "overflow.img", 0, KUMQUATSIEVE_TRUNCATED, UNSET},
+    {"lengths without end", "overflow.img", 0, KUMQUATSIEVE_TRUNCATED, 0},
     {"no right id", "right_ids.img", 0, KUMQUATSIEVE_BAD_SECTION, 0},
     {"no right id, copied", "right_ids.img", COPY, KUMQUATSIEVE_BAD_SECTION, 0},
-    {"a terabyte of another magic", "sparse_magic.img", 0, KUMQUATSIEVE_BAD_MAGIC, UNSET},
+    {"a terabyte of another magic", "sparse_magic.img", 0, KUMQUATSIEVE_BAD_MAGIC, 0},
     {"a terabyte", "sparse.img", 0, KUMQUATSIEVE_BAD_SECTION, 9},
-    {"another digest, tested", "digest.img", WHOLE, KUMQUATSIEVE_DIGEST, UNSET},
+    {"another digest, tested", "digest.img", WHOLE, KUMQUATSIEVE_DIGEST, 0},
     {"another digest, tested although skipped", "digest.img", WHOLE | KUMQUATSIEVE_SKIP_DIGEST,
-     KUMQUATSIEVE_DIGEST, UNSET},
-    {"another digest, tested and copied", "digest.img", WHOLE | COPY, KUMQUATSIEVE_DIGEST, UNSET},
-    {"a user's", "user.img", 0, KUMQUATSIEVE_NOT_SYSTEM, UNSET},
-    {"a user's, copied", "user.img", COPY, KUMQUATSIEVE_NOT_SYSTEM, UNSET},
-    {"an empty device", "/dev/null", 0, KUMQUATSIEVE_TRUNCATED, UNSET},
-    {"a device without end", "/dev/zero", 0, KUMQUATSIEVE_BAD_MAGIC, UNSET},
-    {"a file that shows no length", "/proc/version", 0, KUMQUATSIEVE_BAD_MAGIC, UNSET},
+     KUMQUATSIEVE_DIGEST, 0},
+    {"another digest, tested and copied", "digest.img", WHOLE | COPY, KUMQUATSIEVE_DIGEST, 0},
+    {"a user's", "user.img", 0, KUMQUATSIEVE_NOT_SYSTEM, 0},
+    {"a user's, copied", "user.img", COPY, KUMQUATSIEVE_NOT_SYSTEM, 0},
+    {"an empty device", "/dev/null", 0, KUMQUATSIEVE_TRUNCATED, 0},
+    {"a device without end", "/dev/zero", 0, KUMQUATSIEVE_BAD_MAGIC, 0},
+    {"a byte less, trusted", "shorter.img", KUMQUATSIEVE_TRUSTED, KUMQUATSIEVE_TRUNCATED, 0},
+    {"another layout, trusted", "layout.img", KUMQUATSIEVE_TRUSTED, KUMQUATSIEVE_BAD_LAYOUT, 9},
+    {"a user's, trusted", "user.img", KUMQUATSIEVE_TRUSTED, KUMQUATSIEVE_NOT_SYSTEM, 0},
+    {"a file that shows no length", "/proc/version", 0, KUMQUATSIEVE_BAD_MAGIC, 0},
 };
 
 static const refused_row AS_USER[] = {
     {"no file", "none.img", 0, KUMQUATSIEVE_FILE, ENOENT},
-    {"an unknown bit", "user.img", 16, KUMQUATSIEVE_FILE, EINVAL},
-    {"a folder", "folder.img", 0, KUMQUATSIEVE_FILE, EISDIR},
+    {"an unknown bit", "user.img", 16, KUMQUATSIEVE_BAD_ARGUMENT, 0},
+    {"a folder", "./folder.img", 0, KUMQUATSIEVE_FILE, EISDIR},
     {"another layout", "layout.img", 0, KUMQUATSIEVE_BAD_LAYOUT, 9},
     {"a system's", "whole.img", 0, KUMQUATSIEVE_NOT_USER, 0},
     {"a system's, copied", "whole.img", COPY, KUMQUATSIEVE_NOT_USER, 0},
-    {"another digest, tested", "digest.img", WHOLE, KUMQUATSIEVE_DIGEST, UNSET},
+    {"another digest, tested", "digest.img", WHOLE, KUMQUATSIEVE_DIGEST, 0},
 };
 
-/* After an error the cutter is unchanged, and nothing is open or mapped. */
+/* After an error nothing is open or mapped. */
+static void check_refused(const refused_row *row, const char *path, const char *user,
+                          size_t number) {
+    kumquatsieve_dictionary *dictionary = NULL;
+    kumquatsieve_error error;
+    size_t files = open_files(), maps = mappings_of(NULL), image = user ? 1 : 0;
+    CHECK_CASE(row->what, kumquatsieve_dictionary_open(&dictionary, path, &user, image, row->flags,
+                                                       &error) == row->code);
+    CHECK_CASE(row->what, !dictionary && error.code == row->code && error.number == row->number);
+    CHECK_CASE(row->what, error.image == number);
+    CHECK_CASE(row->what, open_files() == files && mappings_of(NULL) == maps);
+    CHECK_CASE(row->what, kumquatsieve_dictionary_open(NULL, path, &user, image, row->flags,
+                                                       NULL) == row->code);
+}
+
 static void refused_systems(void) {
-    for (size_t i = 0; i < COUNT_OF(AS_SYSTEM); i++) {
-        const refused_row *row = &AS_SYSTEM[i];
-        kumquatsieve_cutter cutter = KUMQUATSIEVE_EMPTY;
-        uint64_t number = UNSET;
-        size_t files = open_files(), maps = mappings_of(NULL);
-        CHECK_CASE(row->what,
-                   kumquatsieve_open(&cutter, row->path, row->how, &number) == row->code &&
-                       number == row->number);
-        CHECK_CASE(row->what, !cutter.held && !cutter.at && !cutter.mapped);
-        CHECK_CASE(row->what, open_files() == files && mappings_of(NULL) == maps);
-        CHECK_CASE(row->what, kumquatsieve_open(&cutter, row->path, row->how, NULL) == row->code);
-    }
+    for (size_t i = 0; i < COUNT_OF(AS_SYSTEM); i++)
+        check_refused(&AS_SYSTEM[i], AS_SYSTEM[i].path, NULL, 0);
 }
 
 static void refused_users(void) {
-    kumquatsieve_cutter cutter = KUMQUATSIEVE_EMPTY;
-    uint64_t number = UNSET;
-    CHECK(kumquatsieve_open_user(&cutter, "none.img", 0, &number) == KUMQUATSIEVE_EMPTY_CUTTER &&
-          number == UNSET);
-    CHECK(kumquatsieve_open(&cutter, "whole.img", 0, &number) == KUMQUATSIEVE_OK &&
-          number == UNSET);
-    CHECK(kumquatsieve_open(&cutter, "none.img", 0, &number) == KUMQUATSIEVE_FULL_CUTTER &&
-          number == UNSET);
-    CHECK(cut(&cutter, LINE) == KUMQUATSIEVE_OK);
-    for (size_t i = 0; i < COUNT_OF(AS_USER); i++) {
-        const refused_row *row = &AS_USER[i];
-        const void *before = cutter.mapped;
-        size_t files = open_files(), maps = mappings_of(NULL);
-        number = UNSET;
-        CHECK_CASE(row->what,
-                   kumquatsieve_open_user(&cutter, row->path, row->how, &number) == row->code &&
-                       number == row->number);
-        CHECK_CASE(row->what, prints(&cutter, PRINTED) && cutter.mapped == before);
-        CHECK_CASE(row->what, open_files() == files && mappings_of(NULL) == maps);
+    for (size_t i = 0; i < COUNT_OF(AS_USER); i++)
+        check_refused(&AS_USER[i], "whole.img", AS_USER[i].path,
+                      AS_USER[i].code == KUMQUATSIEVE_BAD_ARGUMENT ? 0 : 1);
+}
+
+/* Images that would be rejected, and flags by which they are accepted. */
+static void accepted(void) {
+    static const struct {
+        const char *path;
+        uint32_t flags;
+    } ROWS[] = {
+        {"digest.img", 0},
+        {"digest.img", KUMQUATSIEVE_SKIP_DIGEST},
+        {"digest.img", COPY},
+        {"digest.img", KUMQUATSIEVE_TRUSTED},
+        {"whole.img", KUMQUATSIEVE_TRUSTED | COPY},
+        {"whole.img", WHOLE | COPY},
+    };
+    for (size_t i = 0; i < COUNT_OF(ROWS); i++) {
+        kumquatsieve_segmenter segmenter = KUMQUATSIEVE_EMPTY;
+        CHECK_CASE(ROWS[i].path, open_paths(&segmenter, ROWS[i].path, NULL, ROWS[i].flags, NULL) ==
+                                     KUMQUATSIEVE_OK);
+        CHECK_CASE(ROWS[i].path, cuts(&segmenter, LINE, PRINTED));
+        kumquatsieve_segmenter_close(&segmenter);
     }
-    kumquatsieve_free(&cutter);
 }
 
 /* A file that the user may not read. Root may read all files. */
 static void unreadable(void) {
-    kumquatsieve_cutter cutter = KUMQUATSIEVE_EMPTY;
-    uint64_t number = UNSET;
+    kumquatsieve_error error;
     bool is_root = geteuid() == 0;
     CHECK(chmod("whole.img", 0) == 0 && (!is_root || seteuid(65534) == 0));
-    CHECK(kumquatsieve_open(&cutter, "whole.img", 0, &number) == KUMQUATSIEVE_FILE &&
-          number == EACCES);
+    CHECK(kumquatsieve_dictionary_open(NULL, "whole.img", NULL, 0, 0, &error) ==
+              KUMQUATSIEVE_FILE &&
+          error.number == EACCES);
     CHECK((!is_root || seteuid(0) == 0) && chmod("whole.img", 0600) == 0);
 }
 
@@ -216,16 +227,17 @@ static void piped(const char *what, size_t more, size_t at, uint32_t code, uint6
     memcpy(bytes, sys.bytes, sys.length);
     bytes[at] ^= (uint8_t)(code != KUMQUATSIEVE_OK && more == 0);
     for (int is_named = 0; is_named < 2; is_named++) {
-        kumquatsieve_cutter cutter = KUMQUATSIEVE_EMPTY;
-        uint64_t number = UNSET;
+        kumquatsieve_segmenter segmenter = KUMQUATSIEVE_EMPTY;
+        kumquatsieve_error error;
         pid_t child;
         int status = 0;
         const char *path = start_writing(is_named, bytes, sys.length + more, &child);
-        CHECK_CASE(what, kumquatsieve_open(&cutter, path, 0, &number) == code && number == wanted);
+        CHECK_CASE(what,
+                   open_paths(&segmenter, path, NULL, 0, &error) == code && error.number == wanted);
         CHECK(freopen("/dev/null", "r", stdin));
-        CHECK_CASE(what, !cutter.mapped && cutter.held == (code == KUMQUATSIEVE_OK));
-        if (cutter.held) CHECK_CASE(what, cut(&cutter, LINE) == 0 && prints(&cutter, PRINTED));
-        kumquatsieve_free(&cutter);
+        CHECK_CASE(what, segmenter.held == (code == KUMQUATSIEVE_OK));
+        if (segmenter.held) CHECK_CASE(what, cuts(&segmenter, LINE, PRINTED));
+        kumquatsieve_segmenter_close(&segmenter);
         CHECK_CASE(what, waitpid(child, &status, 0) == child);
     }
     free(bytes);
@@ -233,12 +245,12 @@ static void piped(const char *what, size_t more, size_t at, uint32_t code, uint6
 
 /* A file on standard input is mapped. */
 static void standard_input(void) {
-    kumquatsieve_cutter cutter = KUMQUATSIEVE_EMPTY;
+    kumquatsieve_segmenter segmenter = KUMQUATSIEVE_EMPTY;
     CHECK(freopen("whole.img", "r", stdin));
-    CHECK(kumquatsieve_open(&cutter, "/dev/stdin", 0, NULL) == KUMQUATSIEVE_OK &&
+    CHECK(open_paths(&segmenter, "/dev/stdin", NULL, 0, NULL) == KUMQUATSIEVE_OK &&
           mappings_of("whole.img") == 1);
-    CHECK(cut(&cutter, LINE) == KUMQUATSIEVE_OK && prints(&cutter, PRINTED));
-    kumquatsieve_free(&cutter);
+    CHECK(cuts(&segmenter, LINE, PRINTED));
+    kumquatsieve_segmenter_close(&segmenter);
 }
 
 int main(int given, char **paths) {
@@ -251,11 +263,12 @@ int main(int given, char **paths) {
     make_others();
     refused_systems();
     refused_users();
+    accepted();
     unreadable();
-    piped("a pipe", 0, 0, KUMQUATSIEVE_OK, UNSET);
+    piped("a pipe", 0, 0, KUMQUATSIEVE_OK, 0);
     piped("a byte more", 1, 0, KUMQUATSIEVE_BAD_SECTION, 9);
     piped("a megabyte more", 1 << 20, 0, KUMQUATSIEVE_BAD_SECTION, 9);
-    piped("another magic", 0, 0, KUMQUATSIEVE_BAD_MAGIC, UNSET);
+    piped("another magic", 0, 0, KUMQUATSIEVE_BAD_MAGIC, 0);
     piped("another layout", 0, LAYOUT_AT + 1, KUMQUATSIEVE_BAD_LAYOUT, 0x103);
     standard_input();
     free(sys.bytes);

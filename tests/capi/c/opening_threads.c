@@ -1,4 +1,4 @@
-/* Opens, shares and frees the same files on several threads at once: opening_threads SYSTEM.img
+/* Opens and releases the same files on several threads at once: opening_threads SYSTEM.img
    USER.img [FORKS]. The user dictionary has the word すもももも. With FORKS, so many children are
    forked meanwhile, and open files too. At the end nothing is mapped. */
 #include "maps.h"
@@ -12,23 +12,28 @@ enum { THREADS = 4, ROUNDS = 60 };
 
 static char **paths;
 
-/* Makes a round of calls. Its number decides what is copied, and what is freed first. */
+/* Makes a round of calls. Its number decides what is copied, and what is released first. */
 static void open_once(int round) {
-    kumquatsieve_cutter first = kumquatsieve_empty(), second = kumquatsieve_empty();
-    kumquatsieve_dictionary *dictionary = NULL;
-    unsigned how = round % 7 == 0 ? KUMQUATSIEVE_COPY : 0;
-    CHECK(kumquatsieve_open(&first, paths[1], how, NULL) == KUMQUATSIEVE_OK);
-    CHECK(kumquatsieve_open(&second, paths[2], 0, NULL) == KUMQUATSIEVE_NOT_SYSTEM);
-    CHECK(kumquatsieve_open_user(&first, paths[2], 0, NULL) == KUMQUATSIEVE_OK);
-    CHECK(kumquatsieve_share(&second, &first) == KUMQUATSIEVE_OK);
-    kumquatsieve_free(round % 2 ? &first : &second);
-    kumquatsieve_cutter *left = round % 2 ? &second : &first;
-    CHECK(cut(left, LINE) == KUMQUATSIEVE_OK && prints(left, USERS));
-    CHECK(kumquatsieve_dictionary_of(&dictionary, left) == KUMQUATSIEVE_OK);
-    CHECK(kumquatsieve_cutter_over(left, dictionary) == KUMQUATSIEVE_OK);
-    kumquatsieve_dictionary_release(dictionary);
-    CHECK(cut(left, LINE) == KUMQUATSIEVE_OK && prints(left, USERS));
-    kumquatsieve_free(left);
+    kumquatsieve_segmenter first = KUMQUATSIEVE_EMPTY, second = KUMQUATSIEVE_EMPTY;
+    kumquatsieve_dictionary *dictionary = NULL, *again = NULL;
+    uint32_t flags = round % 7 == 0 ? KUMQUATSIEVE_COPY : 0;
+    const char *const users[] = {paths[2]};
+    CHECK(kumquatsieve_dictionary_open(&again, paths[2], NULL, 0, 0, NULL) ==
+          KUMQUATSIEVE_NOT_SYSTEM);
+    CHECK(kumquatsieve_dictionary_open(&dictionary, paths[1], users, 1, flags, NULL) ==
+          KUMQUATSIEVE_OK);
+    CHECK(kumquatsieve_dictionary_open(&again, paths[1], users, 1, flags, NULL) ==
+              KUMQUATSIEVE_OK &&
+          again == dictionary);
+    CHECK(kumquatsieve_segmenter_open(&first, dictionary, NULL) == KUMQUATSIEVE_OK);
+    CHECK(kumquatsieve_segmenter_open(&second, again, NULL) == KUMQUATSIEVE_OK);
+    kumquatsieve_dictionary_release(again);
+    kumquatsieve_segmenter_close(round % 2 ? &first : &second);
+    kumquatsieve_segmenter *left = round % 2 ? &second : &first;
+    if (round % 3) kumquatsieve_dictionary_release(dictionary);
+    CHECK(cuts(left, LINE, USERS));
+    kumquatsieve_segmenter_close(left);
+    if (round % 3 == 0) kumquatsieve_dictionary_release(dictionary);
 }
 
 static void *open_often(void *given) {
@@ -64,7 +69,7 @@ int main(int given, char **words) {
     fork_often(forks);
     for (int i = 0; i < THREADS; i++) CHECK(pthread_join(all[i], NULL) == 0);
     CHECK(mappings_of(paths[1]) == 0 && mappings_of(paths[2]) == 0);
-    printf("opening_threads: %d threads and %d children opened and freed the same files\n", THREADS,
-           forks);
+    printf("opening_threads: %d threads and %d children opened and released the same files\n",
+           THREADS, forks);
     return 0;
 }

@@ -1,12 +1,15 @@
 /* Lets each allocation of a run fail in turn, and counts the blocks: out_of_memory SYSTEM.img
    USER.img. The call whose allocation fails returns KUMQUATSIEVE_MEMORY, the next call works as it
-   would have, and no block is left. A mapped file counts as a block. Linked with --wrap of malloc,
-   realloc, free, mmap and munmap. */
+   would have, and no block is left. A mapping counts as a block. Linked with --wrap of malloc,
+   calloc, realloc, strdup, free, mmap, mremap and munmap. */
 #include "helpers.h"
 #include <errno.h>
 #include <sys/mman.h>
 
 void *__real_malloc(size_t size);
+void *__real_calloc(size_t count, size_t size);
+char *__real_strdup(const char *text);
+void *__real_mremap(void *at, size_t length, size_t wanted, int flags);
 void *__real_realloc(void *block, size_t size);
 void __real_free(void *block);
 void *__real_mmap(void *at, size_t length, int protection, int flags, int fd, off_t offset);
@@ -28,6 +31,20 @@ void *__wrap_realloc(void *block, size_t size) {
     return is_refused() ? NULL : __real_realloc(block, size);
 }
 
+void *__wrap_calloc(size_t count, size_t size) {
+    if (is_refused()) return NULL;
+    void *block = __real_calloc(count, size);
+    held += block != NULL;
+    return block;
+}
+
+char *__wrap_strdup(const char *text) {
+    if (is_refused()) return NULL;
+    char *copy = __real_strdup(text);
+    held += copy != NULL;
+    return copy;
+}
+
 void __wrap_free(void *block) {
     held -= block != NULL;
     __real_free(block);
@@ -41,6 +58,11 @@ void *__wrap_mmap(void *at, size_t length, int protection, int flags, int fd, of
     return mapped;
 }
 
+void *__wrap_mremap(void *at, size_t length, size_t wanted, int flags) {
+    errno = ENOMEM;
+    return is_refused() ? MAP_FAILED : __real_mremap(at, length, wanted, flags);
+}
+
 int __wrap_munmap(void *at, size_t length) {
     held--;
     return __real_munmap(at, length);
@@ -50,150 +72,137 @@ int __wrap_munmap(void *at, size_t length) {
    and an output that it would have set is unchanged. */
 static long times_refused;
 
-enum { UNSET = 77 };
+enum { UNSET = 77, LONGEST = 1048576 };
 
-static int again(uint32_t code) {
+static bool again(uint32_t code) {
     CHECK(code == KUMQUATSIEVE_OK || code == KUMQUATSIEVE_MEMORY);
     times_refused += code == KUMQUATSIEVE_MEMORY;
     return code == KUMQUATSIEVE_MEMORY;
 }
 
-static void fill(kumquatsieve_cutter *cutter, file system, file user) {
-    uint64_t number = UNSET;
-    uint32_t part = UNSET;
-    size_t at = UNSET;
-    while (again(kumquatsieve_load(cutter, system.bytes, system.length, &number)))
-        CHECK(!cutter->held && number == UNSET);
-    while (again(kumquatsieve_add_user(cutter, user.bytes, user.length, &number)))
-        CHECK(number == UNSET);
-    while (again(kumquatsieve_set_format(cutter, BYTES("%m "), 3, BYTES("%m "), 3, BYTES(""), 0,
-                                         BYTES("\\n"), 2, &part, &at)))
-        CHECK(part == UNSET && at == UNSET);
+static void ask_line(kumquatsieve_segmenter *segmenter) {
+    kumquatsieve_line line = {.count = UNSET};
+    const kumquatsieve_word *words = NULL;
+    size_t count = UNSET;
+    while (again(kumquatsieve_set_format(segmenter, "%m ", NULL, NULL, "\\n", NULL))) continue;
+    while (again(kumquatsieve_segment(segmenter, LINE, strlen(LINE), 0, &line, NULL)))
+        CHECK(line.count == UNSET);
+    while (again(kumquatsieve_words(segmenter, &words, &count, NULL)))
+        CHECK(!words && count == UNSET);
+    CHECK(line.count == 1 && count == 1 && words->end == strlen(LINE));
 }
 
-static void ask_path(kumquatsieve_cutter *cutter) {
-    size_t count = UNSET, at = UNSET, needed = UNSET;
-    int64_t total = UNSET;
-    uint8_t room[32];
-    while (again(kumquatsieve_cut(cutter, BYTES(LINE), strlen(LINE), &count, &total, &at)))
-        CHECK(count == UNSET && total == UNSET && at == UNSET);
-    while (again(kumquatsieve_copy_print(cutter, room, sizeof room, &needed)))
-        CHECK(needed == UNSET);
-}
-
-static void ask_lent(kumquatsieve_cutter *cutter) {
-    const uint8_t *feature = NULL, *features = NULL, *kept = NULL;
-    size_t feature_length = UNSET, features_length = UNSET, length = UNSET;
-    while (again(kumquatsieve_feature(cutter, 0, &feature, &feature_length)))
-        CHECK(!feature && feature_length == UNSET);
-    while (again(kumquatsieve_features(cutter, &features, &features_length)))
+static void ask_borrowed(kumquatsieve_segmenter *segmenter) {
+    const char *features = NULL, *printed = NULL;
+    size_t features_length = UNSET, length = UNSET;
+    while (again(kumquatsieve_features(segmenter, &features, &features_length, NULL)))
         CHECK(!features && features_length == UNSET);
-    while (again(kumquatsieve_print(cutter, &kept, &length))) CHECK(!kept && length == UNSET);
-    CHECK(is_text(kept, length, "すもももも \n"));
+    while (again(kumquatsieve_print(segmenter, &printed, &length, NULL)))
+        CHECK(!printed && length == UNSET);
+    CHECK(is_text(printed, length, "すもももも \n"));
 }
 
 /* The nodes are すもも and すもももも at the start, and the three after them. */
-static void ask_nodes(kumquatsieve_cutter *cutter) {
-    kumquatsieve_node nodes[5];
+static void ask_nodes(kumquatsieve_segmenter *segmenter) {
+    const kumquatsieve_node *nodes = NULL;
     size_t count = UNSET, length = UNSET;
-    const uint8_t *feature = NULL;
-    while (again(kumquatsieve_nodes(cutter, 0, nodes, 5, &count))) CHECK(count == UNSET);
+    const char *text = NULL;
+    while (again(kumquatsieve_nodes(segmenter, &nodes, &count, NULL)))
+        CHECK(!nodes && count == UNSET);
     CHECK(count == 5);
-    while (again(kumquatsieve_entry_feature(cutter, true, 0, 0, &feature, &length)))
-        CHECK(!feature && length == UNSET);
-    CHECK(is_text(feature, length, "名詞,すもも"));
+    while (again(kumquatsieve_feature(segmenter, &nodes->word, &text, &length, NULL)))
+        CHECK(!text && length == UNSET);
+    CHECK(is_text(text, length, "名詞,すもも"));
+    while (again(kumquatsieve_field(segmenter, &nodes->word, 1, &text, &length, NULL))) continue;
+    CHECK(is_text(text, length, "すもも"));
 }
 
-static void ask_lines(kumquatsieve_cutter *cutter) {
-    const uint8_t *kept = NULL;
+/* After a failure the last line is unchanged. */
+static void ask_text(kumquatsieve_segmenter *segmenter) {
+    static const char TEXT[] = "z\n\xff\xed\xa0\xbd\xed\xb8\x80もも";
+    kumquatsieve_line line = {.end = 2};
+    const kumquatsieve_word *words = NULL;
+    size_t count = 0;
+    while (again(kumquatsieve_segment(segmenter, LINE, strlen(LINE), 0, NULL, NULL))) continue;
+    while (again(kumquatsieve_segment_text(segmenter, TEXT, strlen(TEXT), 2, 0, &line, NULL)))
+        CHECK(line.end == 2);
+    CHECK(line.end == strlen(TEXT) && line.replaced == 1);
+    while (again(kumquatsieve_words(segmenter, &words, &count, NULL))) continue;
+    CHECK(count == 2 && words[0].start == 2 && words[1].end == strlen(TEXT));
+}
+
+static void ask_lines(kumquatsieve_segmenter *segmenter) {
+    static const char TEXT[] = LINE "\n" LINE;
+    const char *output = NULL;
     size_t length = UNSET;
     uint64_t lines = UNSET;
-    while (again(kumquatsieve_cut_lines(cutter, BYTES(LINE "\n" LINE), 2 * strlen(LINE) + 1, &kept,
-                                        &length, &lines)))
-        CHECK(is_text(kept, length, lines == 1 ? "" : "すもももも \n"));
-    CHECK(lines == 2 && is_text(kept, length, "すもももも \nすもももも \n"));
+    while (again(
+        kumquatsieve_parse_lines(segmenter, TEXT, strlen(TEXT), &output, &length, &lines, NULL)))
+        CHECK(is_text(output, length, lines == 1 ? "" : "すもももも \n"));
+    CHECK(lines == 2 && is_text(output, length, "すもももも \nすもももも \n"));
+    while (again(kumquatsieve_shrink(segmenter, NULL))) continue;
+    while (again(kumquatsieve_set_grouping(segmenter, 3, NULL))) continue;
 }
 
+static void ask_entries(kumquatsieve_dictionary *dictionary) {
+    kumquatsieve_word word;
+    size_t count = UNSET;
+    while (again(kumquatsieve_lookup(dictionary, LINE, strlen(LINE), 0, &word, 1, &count, NULL)))
+        CHECK(count == UNSET);
+    CHECK(count == 1 && word.dictionary == 1);
+}
+
+/* Runs with images in memory. */
 static void run(file system, file user) {
-    kumquatsieve_cutter cutter = KUMQUATSIEVE_EMPTY, other = KUMQUATSIEVE_EMPTY;
-    fill(&cutter, system, user);
-    while (again(kumquatsieve_share(&other, &cutter))) CHECK(!other.held);
-    ask_path(&other);
-    ask_nodes(&other);
-    ask_lent(&other);
-    ask_lines(&other);
-    kumquatsieve_free(&other);
-    kumquatsieve_free(&cutter);
-}
-
-/* Runs with a dictionary of images, and a cutter over it. */
-static void run_over_a_dictionary(file system, file user) {
     const kumquatsieve_image images[] = {{system.bytes, system.length}, {user.bytes, user.length}};
     kumquatsieve_dictionary *dictionary = NULL;
-    kumquatsieve_cutter cutter = KUMQUATSIEVE_EMPTY;
-    while (again(kumquatsieve_dictionary_make(&dictionary, images, 2, 0, NULL, NULL)))
+    kumquatsieve_segmenter segmenter = KUMQUATSIEVE_EMPTY;
+    while (again(kumquatsieve_dictionary_load(&dictionary, images, 2, 0, NULL))) CHECK(!dictionary);
+    while (again(kumquatsieve_segmenter_open(&segmenter, dictionary, NULL)))
+        CHECK(!segmenter.held && !segmenter.state);
+    ask_entries(dictionary);
+    ask_line(&segmenter);
+    ask_borrowed(&segmenter);
+    ask_nodes(&segmenter);
+    ask_lines(&segmenter);
+    kumquatsieve_segmenter_close(&segmenter);
+    kumquatsieve_dictionary_release(dictionary);
+}
+
+/* Runs a text of any bytes. */
+static void run_text(file system, file user) {
+    const kumquatsieve_image images[] = {{system.bytes, system.length}, {user.bytes, user.length}};
+    kumquatsieve_dictionary *dictionary = NULL;
+    kumquatsieve_segmenter segmenter = KUMQUATSIEVE_EMPTY;
+    while (again(kumquatsieve_dictionary_load(&dictionary, images, 2, KUMQUATSIEVE_TRUSTED, NULL)))
         CHECK(!dictionary);
-    while (again(kumquatsieve_cutter_over(&cutter, dictionary))) CHECK(!cutter.held);
-    while (again(cut(&cutter, LINE))) continue;
+    while (again(kumquatsieve_segmenter_open(&segmenter, dictionary, NULL)))
+        CHECK(!segmenter.held && !segmenter.state);
     kumquatsieve_dictionary_release(dictionary);
-    kumquatsieve_free(&cutter);
+    ask_text(&segmenter);
+    kumquatsieve_segmenter_close(&segmenter);
 }
 
-/* Runs with an image in two pieces, and a dictionary of its cutter. */
-static void run_over_a_buffer(file system, file user) {
-    kumquatsieve_dictionary *dictionary = NULL;
-    kumquatsieve_cutter cutter = KUMQUATSIEVE_EMPTY;
-    kumquatsieve_buffer buffer = KUMQUATSIEVE_NO_BYTES;
-    size_t half = system.length / 2;
-    while (again(kumquatsieve_buffer_append(&buffer, half, system.bytes, half)))
-        CHECK(!buffer.held);
-    while (
-        again(kumquatsieve_buffer_append(&buffer, half, system.bytes + half, system.length - half)))
-        CHECK(buffer.held);
-    while (again(kumquatsieve_load_buffer(&cutter, &buffer, false, NULL))) {
-        CHECK(!cutter.held && !buffer.held);
-        CHECK(kumquatsieve_buffer_append(&buffer, system.length, system.bytes, system.length) ==
-              KUMQUATSIEVE_OK);
-    }
-    while (again(kumquatsieve_buffer_append(&buffer, 0, user.bytes, user.length)))
-        CHECK(!buffer.held);
-    while (again(kumquatsieve_add_user_buffer(&cutter, &buffer, false, NULL))) {
-        CHECK(cutter.held && !buffer.held);
-        CHECK(kumquatsieve_buffer_append(&buffer, user.length, user.bytes, user.length) ==
-              KUMQUATSIEVE_OK);
-    }
-    while (again(set_texts(&cutter, "%m ", "%m ", "", "\\n"))) continue;
-    while (again(cut(&cutter, LINE))) continue;
-    while (again(kumquatsieve_dictionary_of(&dictionary, &cutter)))
-        CHECK(!dictionary && prints(&cutter, "すもももも \n"));
+/* Opens files by these flags, and a second time while they are open. */
+static void open_twice(file system, file user, uint32_t flags) {
+    const char *const users[] = {user.path};
+    kumquatsieve_dictionary *dictionary = NULL, *other = NULL;
+    kumquatsieve_segmenter segmenter = KUMQUATSIEVE_EMPTY;
+    while (again(kumquatsieve_dictionary_open(&dictionary, system.path, users, 1, flags, NULL)))
+        CHECK(!dictionary);
+    while (again(kumquatsieve_dictionary_open(&other, system.path, users, 1, flags, NULL)))
+        CHECK(!other);
+    CHECK(other == dictionary);
+    while (again(kumquatsieve_segmenter_open(&segmenter, other, NULL))) CHECK(!segmenter.held);
     kumquatsieve_dictionary_release(dictionary);
+    kumquatsieve_dictionary_release(other);
+    while (again(cut(&segmenter, LINE))) continue;
+    kumquatsieve_segmenter_close(&segmenter);
 }
 
-/* Runs with files, first mapped and then read. */
-static void run_over_files(file system, file user) {
-    kumquatsieve_dictionary *dictionary = NULL;
-    kumquatsieve_cutter cutter = KUMQUATSIEVE_EMPTY, other = KUMQUATSIEVE_EMPTY;
-    uint64_t number = UNSET;
-    while (again(kumquatsieve_open(&cutter, system.path, 0, &number)))
-        CHECK(!cutter.held && !cutter.mapped && number == UNSET);
-    const void *before = cutter.mapped;
-    while (again(kumquatsieve_open_user(&cutter, user.path, 0, &number)))
-        CHECK(cutter.mapped == before && number == UNSET);
-    while (again(kumquatsieve_share(&other, &cutter))) CHECK(!other.held && !other.mapped);
-    kumquatsieve_free(&cutter);
-    while (again(kumquatsieve_dictionary_of(&dictionary, &other)))
-        CHECK(!dictionary && other.held && other.mapped);
-    while (again(kumquatsieve_cutter_over(&other, dictionary))) CHECK(!other.held && !other.mapped);
-    kumquatsieve_dictionary_release(dictionary);
-    while (again(cut(&other, LINE))) continue;
-    while (again(kumquatsieve_open(&cutter, system.path, KUMQUATSIEVE_COPY, &number)))
-        CHECK(!cutter.held && number == UNSET);
-    while (again(kumquatsieve_open_user(&cutter, user.path, KUMQUATSIEVE_COPY, &number)))
-        CHECK(!cutter.mapped && number == UNSET);
-    while (again(cut(&cutter, LINE))) continue;
-    kumquatsieve_free(&cutter);
-    kumquatsieve_free(&other);
-}
+static void run_over_files(file system, file user) { open_twice(system, user, 0); }
+
+static void run_over_copies(file system, file user) { open_twice(system, user, KUMQUATSIEVE_COPY); }
 
 static long growths_of(void (*runs)(file, file), file system, file user) {
     long before = held, first = growths;
@@ -220,8 +229,7 @@ static long refuse_each(void (*runs)(file, file), file system, file user, long a
 int main(int given, char **paths) {
     CHECK(given == 3);
     file system = read_file(paths[1]), user = read_file(paths[2]);
-    void (*const all[])(file, file) = {run, run_over_a_dictionary, run_over_a_buffer,
-                                       run_over_files};
+    void (*const all[])(file, file) = {run, run_text, run_over_files, run_over_copies};
     long counts[COUNT_OF(all)], sum = 0;
     for (size_t i = 0; i < COUNT_OF(all); i++) sum += counts[i] = growths_of(all[i], system, user);
     for (size_t i = 0; i < COUNT_OF(all); i++)

@@ -3,33 +3,33 @@
  */
 #include "helpers.h"
 
-static void print_fault(uint32_t code, uint64_t number) {
-    uint8_t text[64];
-    size_t length = 0;
-    CHECK(kumquatsieve_fault(code, text, sizeof text, &length) == KUMQUATSIEVE_OK && length > 0);
-    printf("%.*s", (int)length, (const char *)text);
-    if (number != UINT64_MAX) printf(" %llu", (unsigned long long)number);
+static void print_error(const kumquatsieve_error *error) {
+    const char *text = kumquatsieve_explain(error->code);
+    CHECK(text);
+    printf("%.*s", (int)strcspn(text, "\n"), text);
+    bool has_number =
+        error->code >= KUMQUATSIEVE_BAD_LAYOUT && error->code <= KUMQUATSIEVE_BAD_TEXT;
+    if (has_number) printf(" %llu", (unsigned long long)error->number);
+    if (error->code == KUMQUATSIEVE_NOT_USER || error->code == KUMQUATSIEVE_OTHER_SIZES)
+        printf(" %zu", error->image - 1);
     puts("");
 }
 
 static void as_the_system(file image) {
-    kumquatsieve_cutter cutter = KUMQUATSIEVE_EMPTY;
-    uint64_t number = UINT64_MAX;
-    uint32_t code = load(&cutter, image, &number);
-    CHECK(code != KUMQUATSIEVE_OK && !cutter.held);
-    print_fault(code, number);
+    kumquatsieve_dictionary *dictionary = NULL;
+    kumquatsieve_error error;
+    CHECK(open_images(&dictionary, &image, 1, &error) != KUMQUATSIEVE_OK && !dictionary);
+    CHECK(error.image == 0);
+    print_error(&error);
 }
 
-/* The cutter works as before after the error. */
 static void as_a_user(file system, file image) {
-    kumquatsieve_cutter cutter = KUMQUATSIEVE_EMPTY;
-    uint64_t number = UINT64_MAX;
-    CHECK(load(&cutter, system, &number) == KUMQUATSIEVE_OK && number == UINT64_MAX);
-    uint32_t code = load_user(&cutter, image, &number);
-    CHECK(code != KUMQUATSIEVE_OK && cutter.held);
-    print_fault(code, number);
-    CHECK(cut(&cutter, LINE) == KUMQUATSIEVE_OK && prints(&cutter, PRINTED));
-    kumquatsieve_free(&cutter);
+    const file images[] = {system, image};
+    kumquatsieve_dictionary *dictionary = NULL;
+    kumquatsieve_error error;
+    CHECK(open_images(&dictionary, images, 2, &error) != KUMQUATSIEVE_OK && !dictionary);
+    CHECK(error.image == 1);
+    print_error(&error);
 }
 
 int main(int given, char **paths) {

@@ -1,16 +1,16 @@
-/* Segments the lines of a file on four threads, each with a cutter over shared dictionaries:
+/* Segments the lines of a file on four threads, each with a segmenter over shared dictionaries:
    threads IMG LINES. Their outputs are equal, and printed once. */
 #include "helpers.h"
 #include <pthread.h>
 
 typedef struct work {
-    kumquatsieve_cutter cutter;
+    kumquatsieve_segmenter segmenter;
     file lines;
-    uint8_t *out;
+    char *out;
     size_t length;
 } work;
 
-static void append(work *own, const uint8_t *text, size_t length) {
+static void append(work *own, const char *text, size_t length) {
     own->out = realloc(own->out, own->length + length + 1);
     CHECK(own->out);
     memcpy(own->out + own->length, text, length);
@@ -19,18 +19,18 @@ static void append(work *own, const uint8_t *text, size_t length) {
 
 static void *cut_all(void *given) {
     work *own = given;
-    const uint8_t *text = NULL, *line = own->lines.bytes, *end = line + own->lines.length;
+    const char *text = NULL, *line = (const char *)own->lines.bytes,
+               *end = line + own->lines.length;
     while (line < end) {
-        const uint8_t *feed = memchr(line, '\n', (size_t)(end - line));
-        size_t count = 0, length = 0;
-        int64_t total = 0;
-        CHECK(feed && kumquatsieve_cut(&own->cutter, line, (size_t)(feed - line), &count, &total,
-                                       NULL) == KUMQUATSIEVE_OK);
-        CHECK(kumquatsieve_print(&own->cutter, &text, &length) == KUMQUATSIEVE_OK);
+        const char *feed = memchr(line, '\n', (size_t)(end - line));
+        size_t length = 0;
+        CHECK(feed && kumquatsieve_segment(&own->segmenter, line, (size_t)(feed - line), 0, NULL,
+                                           NULL) == KUMQUATSIEVE_OK);
+        CHECK(kumquatsieve_print(&own->segmenter, &text, &length, NULL) == KUMQUATSIEVE_OK);
         append(own, text, length);
         line = feed + 1;
     }
-    kumquatsieve_free(&own->cutter);
+    kumquatsieve_segmenter_close(&own->segmenter);
     return NULL;
 }
 
@@ -40,11 +40,13 @@ int main(int given, char **paths) {
     file image = read_file(paths[1]), lines = read_file(paths[2]);
     work all[THREADS];
     pthread_t threads[THREADS];
-    uint64_t number = 0;
-    for (int i = 0; i < THREADS; i++) all[i] = (work){KUMQUATSIEVE_EMPTY, lines, NULL, 0};
-    CHECK(load(&all[0].cutter, image, &number) == KUMQUATSIEVE_OK);
-    for (int i = 1; i < THREADS; i++)
-        CHECK(kumquatsieve_share(&all[i].cutter, &all[0].cutter) == KUMQUATSIEVE_OK);
+    kumquatsieve_dictionary *dictionary = NULL;
+    CHECK(open_images(&dictionary, &image, 1, NULL) == KUMQUATSIEVE_OK);
+    for (int i = 0; i < THREADS; i++) {
+        all[i] = (work){KUMQUATSIEVE_EMPTY, lines, NULL, 0};
+        CHECK(kumquatsieve_segmenter_open(&all[i].segmenter, dictionary, NULL) == KUMQUATSIEVE_OK);
+    }
+    kumquatsieve_dictionary_release(dictionary);
     for (int i = 0; i < THREADS; i++)
         CHECK(pthread_create(&threads[i], NULL, cut_all, &all[i]) == 0);
     for (int i = 0; i < THREADS; i++) CHECK(pthread_join(threads[i], NULL) == 0);

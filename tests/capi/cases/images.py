@@ -1,5 +1,4 @@
 """Images that the checks load: of the sample, of user dictionaries, and of unusual sizes."""
-import hashlib
 from pathlib import Path
 from typing import Union
 
@@ -15,16 +14,25 @@ LEXICONS = {
     # A third word whose fields differ, so that no two of them can be exchanged.
     "layout": "あ,1,1,0,名詞\nい,1,1,0,名詞\nすもももも,0,1,-30000,名詞,すもももも\n",
 }
+# The lexicon of an image with quoted fields, and the names of the fields of a copy of it.
+QUOTED = """\
+すもも,1,1,100,名詞,"す,も",,*
+も,1,1,20, 助詞,も,
+もも,1,1,30,名詞,"a""b"x, 後
+"""
+NAMES = "pos1\n\ncType\r\northBase\n"
 # Context ids of a matrix of 35 MB, which is above the threshold of huge pages.
 LARGE = 4200
+
+
+SYSTEM_COMMAND: list[Union[str, Path]] = [program("dictc"), "system"]
+SYSTEM_COMMAND += ["--char", SAMPLE / "char.def", "--unk", SAMPLE / "unk.def"]
 
 
 def system_image(folder: Path, name: str = "system", matrix: Path = SAMPLE / "matrix.def") -> Path:
     """Compiles the sample, with this matrix.def, and returns the path of the image."""
     image = folder / f"{name}.img"
-    command: list[Union[str, Path]] = [program("dictc"), "system", "--matrix", matrix]
-    command += ["--char", SAMPLE / "char.def", "--unk", SAMPLE / "unk.def"]
-    run([*command, "--out", image, SAMPLE / "lexicon.csv"])
+    run([*SYSTEM_COMMAND, "--matrix", matrix, "--out", image, SAMPLE / "lexicon.csv"])
     return image
 
 
@@ -36,12 +44,24 @@ def user_image(system: Path, name: str) -> Path:
     return image
 
 
-def odd_image(system: Path) -> Path:
-    """Returns the path of an image with a line feed in a feature, which no source can have."""
-    image = system.read_bytes()[:-32].replace("名詞,もも".encode(), "名詞\nもも".encode())
-    odd = system.parent / "odd.img"
-    odd.write_bytes(image + hashlib.sha256(image).digest())
-    return odd
+def quoted_image(folder: Path) -> Path:
+    """Compiles QUOTED and returns the path of the image, which has a file of names of another."""
+    lexicon, image = folder / "quoted.csv", folder / "quoted.img"
+    lexicon.write_text(QUOTED)
+    run([*SYSTEM_COMMAND, "--matrix", SAMPLE / "matrix.def", "--out", image, lexicon])
+    image.with_suffix(".fields").write_text(f"; image-sha256 {'0' * 64}\n{NAMES}")
+    return image
+
+
+def named_image(image: Path) -> Path:
+    """Returns the path of a link to a copy of an image with a file of the names of its fields."""
+    copy, link = image.with_name("named.img"), image.with_name("link.img")
+    copy.write_bytes(image.read_bytes())
+    line = f"; image-sha256 {image.read_bytes()[-32:].hex()}\n"
+    copy.with_suffix(".fields").write_bytes(("\ufeff" + line + NAMES).encode())
+    if not link.exists():
+        link.symlink_to(copy.name)
+    return link
 
 
 def large_image(system: Path) -> Path:

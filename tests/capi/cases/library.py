@@ -10,11 +10,13 @@ FLAGS = ["-std=c11", "-O2", "-g", "-Wall", "-Wextra", "-Werror"]
 VALGRIND = ["valgrind", "-q", "--leak-check=full", "--show-leak-kinds=all", "--error-exitcode=9"]
 VALGRIND += ["--child-silent-after-fork=yes"]
 HELGRIND = ["valgrind", "-q", "--tool=helgrind", "--error-exitcode=9"]
-# Flags of gcc that choose how a program loads images: from bytes in memory, or by their paths with
-# this argument `how`.
-COPIES, FILES = (), ("-DHOW=0",)
-WHOLE_FILES = ("-DHOW=KUMQUATSIEVE_TEST_DIGEST",)
-READ_FILES = ("-DHOW=KUMQUATSIEVE_COPY|KUMQUATSIEVE_TEST_DIGEST",)
+# Flags of gcc that choose how a program opens images: from bytes in memory, or by their paths with
+# these flags of the library.
+COPIES, FILES = (), ("-DFLAGS=0",)
+WHOLE_FILES = ("-DFLAGS=KUMQUATSIEVE_TEST_DIGEST",)
+READ_FILES = ("-DFLAGS=KUMQUATSIEVE_COPY|KUMQUATSIEVE_TEST_DIGEST",)
+# Flags of gcc for ThreadSanitizer, by which the C code of the library is built for it too.
+THREAD_SANITIZER = "-O1 -g -fsanitize=thread"
 # The number of children that a program with this argument forks while its threads run.
 FORKS = "200"
 
@@ -38,12 +40,14 @@ def show_threads(command: Words) -> None:
 class Library:
     """The library, installed in `folder`. `options` are those of packaging/build-library."""
 
-    def __init__(self, folder: Path, options: list[str]) -> None:
+    def __init__(self, folder: Path, options: list[str], flags: str = "") -> None:
         self.folder = folder
         self.prefix = folder / "prefix"
-        run([TOP / "packaging/build-library", *options, self.prefix])
+        self.flags = flags.split()
+        variables = {**os.environ, "CFLAGS": flags} if flags else None
+        run([TOP / "packaging/build-library", *options, self.prefix], env=variables)
         self.archive = self.prefix / "lib" / "libkumquatsieve.a"
-        self.shared = self.prefix / "lib" / "libkumquatsieve.so.0"
+        self.shared = self.prefix / "lib" / "libkumquatsieve.so.1"
 
     def compiled(self, source: Path, *flags: str) -> Path:
         """Compiles a program over the archive and returns its path."""
@@ -51,7 +55,7 @@ class Library:
         program = self.folder / (source.stem + "".join(filter(str.isalnum, definitions)))
         include = f"-I{self.prefix / 'include'}"
         command: list[Union[str, Path]] = ["gcc", *FLAGS, include, source, self.archive]
-        run([*command, "-pthread", *flags, "-o", program])
+        run([*command, "-pthread", *self.flags, *flags, "-o", program])
         return program
 
     def test(self, name: str, *flags: str) -> Path:
@@ -67,9 +71,3 @@ class Library:
         """Returns the names that the archive defines for programs that are linked with it."""
         lines = run(["nm", "--extern-only", "--defined-only", self.archive]).decode().splitlines()
         return sorted(line.split()[-1] for line in lines if len(line.split()) == 3)
-
-    def python(self) -> dict[str, str]:
-        """Returns the environment in which Python finds the module and the library."""
-        paths = f"{TOP / 'python'}:{TOP / 'tests'}"
-        found = {"PYTHONPATH": paths, "KUMQUATSIEVE_LIBRARY": str(self.shared)}
-        return {**os.environ, "PYTHONDONTWRITEBYTECODE": "1", **found}

@@ -1,17 +1,19 @@
 """Runs the programs of tests/capi/c that test the calls, each under valgrind."""
 import re
 import sys
+import tempfile
 from pathlib import Path
 from typing import NamedTuple, Sequence
 
-from capi.cases.images import large_image, odd_image, user_image
-from capi.cases.library import COPIES, FILES, READ_FILES, VALGRIND, WHOLE_FILES, Library
-from capi.cases.library import report, show, show_threads
+from capi.cases.images import large_image, named_image, quoted_image, user_image
+from capi.cases.library import COPIES, FILES, READ_FILES, THREAD_SANITIZER, VALGRIND, WHOLE_FILES
+from capi.cases.library import Library, report, show, show_threads
 from cli.cases.images import OTHER_SIZES, REFUSED
-from support.running import TOP, run
+from support.running import run
 
 HUGE_PAGES = Path("/sys/kernel/mm/transparent_hugepage/enabled")
-WRAPPED = [f"-Wl,--wrap={call}" for call in ("malloc", "realloc", "free", "mmap", "munmap")]
+ALLOCATIONS = "malloc calloc realloc strdup free mmap mremap munmap".split()
+WRAPPED = [f"-Wl,--wrap={call}" for call in ALLOCATIONS]
 
 
 class Test(NamedTuple):
@@ -25,17 +27,16 @@ class Test(NamedTuple):
 
 
 TESTS = [
-    Test("calls", ["user"]),
-    Test("outputs", ["user"]),
     Test("dictionaries", ["user"]),
     Test("layout", ["layout"]),
-    Test("null_arguments", ["user"], [COPIES]),
-    Test("buffers", ["user"], [COPIES]),
     Test("out_of_memory", ["user"], [COPIES], WRAPPED),
     Test("lines", [], [COPIES, WHOLE_FILES]),
+    Test("text", [], [COPIES]),
     Test("settings", ["momo", "momo_b"], [COPIES, WHOLE_FILES]),
     Test("nodes", ["blank"], [COPIES, WHOLE_FILES]),
 ]
+# The programs whose threads use the library at once.
+THREADED = ("dictionaries", "opening_threads")
 
 
 def check_programs(library: Library, system: Path) -> None:
@@ -51,10 +52,28 @@ def check_programs(library: Library, system: Path) -> None:
     report(f"{runs} cases: no error and no block left under valgrind, and no race under helgrind")
 
 
-def check_python_calls(library: Library, system: Path, user: Path) -> None:
-    """Makes each call of the Python module."""
-    script = TOP / "tests" / "capi" / "python_calls.py"
-    show([sys.executable, script, system, user, odd_image(system)], env=library.python())
+def check_calls(library: Library, system: Path) -> None:
+    """Makes each call with each code and each NULL, and checks the errors and the fields."""
+    user, nothing = user_image(system, "user"), library.folder / "nothing.img"
+    for way in (COPIES, FILES):
+        show([*VALGRIND, library.test("calls", *way), system, user, nothing])
+    with tempfile.TemporaryDirectory(dir=library.folder) as own:
+        show([*VALGRIND, library.test("image_errors"), system, user, own])
+    show([*VALGRIND, library.test("errors"), system])
+    quoted, momo = quoted_image(library.folder), user_image(system, "momo")
+    for way in (COPIES, FILES):
+        show([*VALGRIND, library.test("fields", *way), quoted, momo, named_image(quoted)])
+
+
+def check_races(folder: Path, options: list[str], system: Path, user: Path) -> list[str]:
+    """Runs the threads with ThreadSanitizer. Returns what could not be tested here."""
+    folder.mkdir()
+    library = Library(folder, options, THREAD_SANITIZER)
+    for name in THREADED:
+        program = library.test(name, *FILES)
+        tested = run([program, system, user], env={"TSAN_OPTIONS": "halt_on_error=1"})
+        report(f"no race by ThreadSanitizer: {tested.decode().strip()}")
+    return []
 
 
 def check_rejected_images(library: Library, system: Path) -> None:

@@ -1,36 +1,38 @@
-"""Checks that C and C++ compile the header, and every call in it, without a warning."""
+"""Checks that C and C++ compile the installed header, and calls of it, without a warning."""
 import shutil
 
-from capi.cases.library import report
-from support.running import TOP, run
+from capi.cases.library import Library, report
+from support.running import run
 
-FLAGS = ["-Wall", "-Wextra", "-Wpedantic", "-Werror", "-fsyntax-only", f"-I{TOP / 'capi/include'}"]
-# The compiler and the language for each standard.
+FLAGS = ["-Wall", "-Wextra", "-Wpedantic", "-Werror", "-fsyntax-only"]
+# The language and the compilers for each standard.
 STANDARDS = {
-    "c99": ("gcc", "c"),
-    "c11": ("gcc", "c"),
-    "c++17": ("g++", "c++"),
+    "c99": ("c", ("gcc", "clang")),
+    "c11": ("c", ("gcc", "clang")),
+    "c++17": ("c++", ("g++", "clang++")),
 }
 SOURCE = b"""#include <kumquatsieve.h>
 int main(void) {
-    kumquatsieve_cutter cutter = KUMQUATSIEVE_EMPTY, other = kumquatsieve_empty();
-    kumquatsieve_buffer buffer = KUMQUATSIEVE_NO_BYTES, second = kumquatsieve_no_bytes();
-    kumquatsieve_free(&cutter);
-    kumquatsieve_free(&other);
-    kumquatsieve_buffer_free(&buffer);
-    kumquatsieve_buffer_free(&second);
-    return kumquatsieve_cut(&cutter, NULL, 0, NULL, NULL, NULL) == KUMQUATSIEVE_OK;
+    kumquatsieve_dictionary *dictionary = NULL;
+    kumquatsieve_segmenter segmenter = KUMQUATSIEVE_EMPTY;
+    kumquatsieve_error error;
+    uint32_t flags = KUMQUATSIEVE_TEST_DIGEST | KUMQUATSIEVE_COPY;
+    uint32_t code = kumquatsieve_dictionary_open(&dictionary, "x", NULL, 0, flags, &error);
+    kumquatsieve_segmenter_close(&segmenter);
+    return code == KUMQUATSIEVE_OK && kumquatsieve_shrink(&segmenter, NULL) == error.code;
 }
 """
 
 
-def check_standards() -> list[str]:
+def check_standards(library: Library) -> list[str]:
     """Compiles the header by each standard. Returns what could not be tested here."""
     missing = []
-    for standard, (compiler, language) in STANDARDS.items():
-        if shutil.which(compiler) is None:
-            missing.append(f"the header in {standard}, which needs {compiler}")
-            continue
-        run([compiler, f"-std={standard}", *FLAGS, "-x", language, "-"], SOURCE)
-        report(f"the header compiles as {standard} without a warning")
+    for standard, (language, compilers) in STANDARDS.items():
+        for compiler in compilers:
+            if shutil.which(compiler) is None:
+                missing.append(f"the header in {standard} by {compiler}")
+                continue
+            include = f"-I{library.prefix / 'include'}"
+            run([compiler, f"-std={standard}", *FLAGS, include, "-x", language, "-"], SOURCE)
+            report(f"the header compiles as {standard} by {compiler} without a warning")
     return missing

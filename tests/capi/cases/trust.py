@@ -1,5 +1,5 @@
 #!/usr/bin/env python3
-"""Checks which records of tested images are trusted: trust.py OPEN_CODE SYSTEM.img
+"""Checks which records of tested images are trusted.
 
 OPEN_CODE is tests/capi/c/open_code.c as a program, and SYSTEM.img the sample's image. Each case of
 trust_cases.py has its own directory with an image and a valid record, before or after which
@@ -9,6 +9,7 @@ accepted if the record is trusted, and rejected with L7 otherwise.
 As root, all cases run in their own mount namespace. What can't be tested here is printed on a line
 that starts with `left out: `.
 """
+import argparse
 import os
 import shutil
 import subprocess
@@ -116,6 +117,12 @@ def check_all(folder: Path, program: Path, system: Path, is_root: bool) -> None:
 
 
 def main() -> None:
+    parser = argparse.ArgumentParser(
+        description=__doc__, formatter_class=argparse.RawDescriptionHelpFormatter
+    )
+    parser.add_argument("open_code", type=Path, metavar="OPEN_CODE")
+    parser.add_argument("system", type=Path, metavar="SYSTEM.img")
+    options = parser.parse_args()
     is_root = enter_namespace()
     os.umask(0o022)
     with tempfile.TemporaryDirectory() as name:
@@ -124,8 +131,8 @@ def main() -> None:
         if not can_trust(folder, is_root):
             print("left out: records, because the temporary folder is on another file system")
             return
-        program = Path(shutil.copy(sys.argv[1], folder))
-        check_all(folder, program, Path(sys.argv[2]).resolve(), is_root)
+        program = Path(shutil.copy(options.open_code, folder))
+        check_all(folder, program, options.system.resolve(), is_root)
         while mounted_under(folder):
             continue
 

@@ -1,6 +1,6 @@
 """Cases of records: changes before and after a valid record is written, and whether it is trusted.
 
-docs/LIBRARY.md has the rules.
+docs/C_API.md has the rules.
 """
 import os
 from typing import NamedTuple

@@ -14,11 +14,19 @@ def explain_commands(program: str) -> Iterator[Tuple[str, str, Sequence[str]]]:
     The commands have codes in lower case, names, names of several errors, and no code at all.
     """
     yield f"{program} --explain g3", "G3 NotUtf8\nMeaning: ", ()
+    yield f"{program} --explain l4", "L4 BadSection\nMeaning: ", ()
+    yield f"{program} --explain k7", "K7 ShortBuffer\nMeaning: ", ()
+    yield f"{program} --explain=Memory", "Memory\nMeaning: ", ()
     yield f"{program} --explain BADSECTION", "L4 BadSection\nMeaning: ", ()
+    yield f"{program} --explain nosuchcategory", "C4 NoSuchCategory\nMeaning: ", (
+        "\n\nU1 NoSuchCategory\nMeaning: ",
+    )
+    yield f"{program} --explain notutf8", "S1 NotUtf8\nMeaning: ", ()
     yield f"{program} --explain NotUtf8", "S1 NotUtf8\nMeaning: ", ("\n\nG3 NotUtf8\nMeaning: ",)
     yield f"{program} --explain", "", (
-        "L4 BadSection\n",
-        "Memory\n",
+        "\nL4 BadSection\n",
+        "\nG3 NotUtf8\nG4 TooLong\n",
+        *(f"{code}\n" for code in sorted(program_codes())),
         *(f"{code}\n" for code in LIBRARY_CODES),
     )
 
@@ -48,7 +56,7 @@ CASES = [
         Case(
             f"{program} --explain X9",
             f"{program} --explain X9",
-            err=Has(f"{program}: no fault has the code or name 'X9'"),
+            err=Has(f"{program}: no error has the code or name 'X9'"),
             status=2,
         )
         for program in PROGRAMS

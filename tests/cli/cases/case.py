@@ -110,9 +110,10 @@ Expected = Union[str, bytes, Has]
 class Conditions(NamedTuple):
     """What a run meets besides its arguments, its files and its text."""
 
-    # text; directory; closed; failing: a read fails after the text; reset: the first read alone
-    # fails; slow: the second half of the text comes after two seconds; entries: a lexicon of one
-    # entry more than a dictionary may have; feature: a lexicon with a feature that is too long.
+    # text; file: a regular file with the text; directory; closed; failing: the reads after the text
+    # fail; reset: the read after the text alone fails; slow: the second half of the text comes
+    # after two seconds; entries: a lexicon of one entry more than a dictionary may have; feature: a
+    # lexicon with a feature that is too long.
     stdin: str = "text"
     # kept; file; full; closed; unread: a pipe without a reader.
     stdout: str = "kept"

@@ -1,7 +1,18 @@
 """Command lines: help, and command lines that are rejected."""
+import re
 from pathlib import Path
 
 from .case import DEFINITIONS, LEXICON, SYSTEM, USER, Case, Files, Has
+
+
+class Helped(Has):
+    """Matches a help that starts with a text, and has one after each option and subcommand."""
+
+    def fits(self, text: str) -> bool:
+        lines = re.findall("^ {2,}.*", text, re.M)
+        are_helped = all(re.search(r"\S {2,}[A-Z]", line) for line in lines)
+        return super().fits(text) and are_helped and not text.startswith(("\n", "Usage: "))
+
 
 # (command, what the text contains)
 HELP = [
@@ -77,6 +88,13 @@ WRONG = [
     ("no image's name", "jseg -d"),
 ]
 
+# What is missing. (command, what is printed)
+MISSING = [
+    ("dictc", "a subcommand is required: 'dictc system', 'dictc user' or 'dictc ids'"),
+    ("jseg", "a dictionary is required: -d IMG, --sources DIR or --sample"),
+    ("jseg --sample --within 5", "--within N requires --lattice FORM"),
+]
+
 # Control characters of an argument are escaped. (command, how the message starts)
 CONTROLS = [
     ("jseg '--x\x1b[2J'", r"unexpected argument '--x\u{1b}[2J' found"),
@@ -84,7 +102,7 @@ CONTROLS = [
     ("jseg '-\x7f'", r"unexpected argument '-\u{7f}' found"),
     ("jseg --sample -M '\r7'", r"invalid value '\r7' for '-M <N>': "),
     ("jseg --sample -M '7\n'", r"invalid value '7\n' for '-M <N>': "),
-    ("jseg --explain 'L4\n\x9b'", r"no fault has the code or name 'L4\n\u{9b}'"),
+    ("jseg --explain 'L4\n\x9b'", r"no error has the code or name 'L4\n\u{9b}'"),
     ("dictc 'sys\ttem'", r"unrecognized subcommand 'sys\ttem'"),
     ("dictc system '--mat\nrix' a/matrix.def", r"unexpected argument '--mat\nrix' found"),
 ]
@@ -133,7 +151,7 @@ def dash_case(command: str, name: str) -> Case:
 
 
 CASES = [
-    *(Case(command, command, out=Has("", ("Usage: ", *texts))) for command, texts in HELP),
+    *(Case(command, command, out=Helped("", ("Usage: ", *texts))) for command, texts in HELP),
     *(
         Case(what, command, "も\n", err=Has(f"{command.split()[0]}: "), status=2)
         for what, command in WRONG
@@ -147,6 +165,16 @@ CASES = [
             status=2,
         )
         for command, message in CONTROLS
+    ),
+    *(
+        Case(
+            f"{command}: {message}",
+            command,
+            "も\n",
+            err=Has(f"{command.split()[0]}: {message}\n"),
+            status=2,
+        )
+        for command, message in MISSING
     ),
     *(dash_case(*row) for row in DASHES),
     Case(
@@ -169,7 +197,7 @@ CASES = [
         Case(
             command,
             command,
-            err=f"--out names a file that is read: {message}",
+            err=f"--out would overwrite an input file: {message}",
             status=2,
             files=SPARE,
         )

@@ -8,13 +8,15 @@ SOURCES = TOP / "crates" / "mj_model" / "src"
 # The codes of the C library's calls, which no program reports.
 LIBRARY_CODES = (
     "K1 LineFeed",
-    "K2 NothingCut",
+    "K2 NothingSegmented",
     "K3 Shared",
     "K4 BadGrouping",
-    "K5 EmptyCutter",
-    "K6 FullCutter",
+    "K5 EmptySegmenter",
+    "K6 FullSegmenter",
     "K7 ShortBuffer",
     "K8 NoWord",
+    "K9 BadArgument",
+    "K10 NoField",
 )
 
 

@@ -52,7 +52,7 @@ DENIED_PATHS = [
     ("jseg --sources a", "a", NO_LISTING),
 ]
 
-# Where the image is written. (what, command, what is there before, and after)
+# The path to which the image is written. (what, command, files before, files after)
 LINKED: Files = {"link": Path("folder/new.img"), "folder": {}, "folder/new.img": b"old"}
 WRITTEN: List[Tuple[str, str, Files, Changes]] = [
     ("a new file", ALL, {}, MADE),

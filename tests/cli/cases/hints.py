@@ -18,21 +18,26 @@ NUMBER = "dictc: bad.csv:4: field 4 (word cost) is 'x', not an integer from -327
 
 # Why a file can't be read. (command, path, what is there, why)
 WHY: List[Tuple[str, str, Found, str]] = [
-    ("jseg -d none.img -v", "none.img", None, "it is not there"),
-    ("jseg -v -d sys.img -u none.img", "none.img", None, "it is not there"),
-    ("jseg -d folder -v", "folder", {}, "it is a directory"),
-    ("jseg --sources a -v", "a/unk.def", None, "it is not there"),
-    (f"{SYSTEM} -v none.csv", "none.csv", None, "it is not there"),
-    (f"{SYSTEM} -v folder", "folder", {}, "it is a directory"),
-    ("dictc user -v --dic none.img --out new.img user.csv", "none.img", None, "it is not there"),
-    ("jseg -v -d memory", "memory", Path("/proc/self/mem"), "a read of it failed"),
+    ("jseg -d none.img -v", "none.img", None, "no such file or directory"),
+    ("jseg -v -d sys.img -u none.img", "none.img", None, "no such file or directory"),
+    ("jseg -d folder -v", "folder", {}, "is a directory"),
+    ("jseg --sources a -v", "a/unk.def", None, "no such file or directory"),
+    (f"{SYSTEM} -v none.csv", "none.csv", None, "no such file or directory"),
+    (f"{SYSTEM} -v folder", "folder", {}, "is a directory"),
+    (
+        "dictc user -v --dic none.img --out new.img user.csv",
+        "none.img",
+        None,
+        "no such file or directory",
+    ),
+    ("jseg -v -d memory", "memory", Path("/proc/self/mem"), "a read failed"),
     ("jseg -v -d loop", "loop", Path("loop"), "Too many levels of symbolic links"),
 ]
 
-NOT_THERE = "{program}: none.img: it is not there\n"
+NOT_THERE = "{program}: none.img: no such file or directory\n"
 CONVERTER = (
-    "{program}: kumquatsieve-import takes sources that are not UTF-8: "
-    "a directory of them, and lexicons with --user\n"
+    "{program}: kumquatsieve-import converts sources that are not UTF-8: "
+    "pass it their directory, or lexicons with --user\n"
 )
 EUC = {"euc.csv": LEXICON.decode().encode("euc_jp")}
 # Hints beside an error. (command, the lines before the error, the error, its code, the status)
@@ -50,21 +55,21 @@ ERRORS = [
     ("jseg -d text", "", "text: L1 Truncated", "L1", 1),
     (
         "jseg --sample -F %m%q",
-        "{program}: the fault is in the text of -F\n{program}: %m%q\n{program}:   ^\n",
+        "{program}: the error is in the format of -F\n{program}: %m%q\n{program}:   ^\n",
         "P2 BadItem 2",
         "P2",
         2,
     ),
     (
         "jseg --sample -U 'すa\t%q'",
-        "{program}: the fault is in the text of -U\n{program}: すa\\t%q\n{program}:      ^\n",
+        "{program}: the error is in the format of -U\n{program}: すa\\t%q\n{program}:      ^\n",
         "P2 BadItem 5",
         "P2",
         2,
     ),
     (
         "jseg --sample -E '\\x'",
-        "{program}: the fault is in the text of -E\n{program}: \\x\n{program}: ^\n",
+        "{program}: the error is in the format of -E\n{program}: \\x\n{program}: ^\n",
         "P1 BadEscape 0",
         "P1",
         2,
@@ -74,7 +79,7 @@ ERRORS = [
 
 def explain_hint(program: str, code: str) -> str:
     """Returns the line that names `--explain`."""
-    return f"{program}: '{program} --explain {code}' prints what that means and what to do\n"
+    return f"{program}: '{program} --explain {code}' explains this error\n"
 
 
 def with_hints(command: str, before: str, error: str, code: str, status: int) -> Iterator[Case]:
@@ -138,14 +143,14 @@ CASES = [
     Case(
         "no permission",
         "jseg -d sys.img -v",
-        err=Has("", ("sys.img: permission to read it is missing\n",)),
+        err=Has("", ("sys.img: permission denied\n",)),
         status=3,
         modes={"sys.img": DENIED},
     ),
     Case(
         "a name that is not UTF-8",
         "jseg --sources a -v",
-        err=Has("", ("a: a name in this directory is not UTF-8\n",)),
+        err=Has("", ("a: a file name in this directory is not UTF-8\n",)),
         status=3,
         files={"a/\udcff": b""},
     ),
@@ -154,7 +159,7 @@ CASES = [
         Case(
             f"which option: {option}",
             f"jseg --sample -v {option} %q",
-            err=Has("", (f"the text of {option}\n", "P2 BadItem 0\n")),
+            err=Has("", (f"the format of {option}\n", "P2 BadItem 0\n")),
             status=2,
         )
         for option in ("-F", "-U", "-B", "-E")
@@ -162,7 +167,13 @@ CASES = [
     Case(
         "a mark before matrix.def",
         "jseg --sources a -v",
-        err=Has("", ("a/matrix.def begins with a byte order mark", "a/matrix.def:1: M1 BadHeader")),
+        err=Has(
+            "",
+            (
+                "a/matrix.def: the file starts with a byte order mark",
+                "a/matrix.def:1: M1 BadHeader",
+            ),
+        ),
         status=1,
         files={"a/matrix.def": MARK + MATRIX},
     ),

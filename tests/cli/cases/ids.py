@@ -6,7 +6,7 @@ HEADING = "left\tright\tentries\tleast\tlower_quartile\tmedian\tupper_quartile\t
 IDS = "dictc ids --dic sys.img"
 NOUNS = HEADING + "1\t1\t2\t30\t30\t100\t100\t100\n"
 WITH_USER = HEADING + "1\t1\t3\t1\t1\t30\t100\t100\n"
-NONE = "no entry fits '動詞'\n"
+NONE = "no entry matches '動詞'\n"
 
 FOUND = [
     # (command, output)

@@ -145,7 +145,7 @@ REJECTED: List[Tuple[str, str, str, int, Variables, Files]] = [
     (
         "a system's that would be lost",
         "dictc user --dic made --out PREFIX/var/lib/kumquatsieve/made.img user.csv",
-        "--out names a file that is read: PREFIX/var/lib/kumquatsieve/made.img",
+        "--out would overwrite an input file: PREFIX/var/lib/kumquatsieve/made.img",
         2,
         {},
         {},
@@ -153,12 +153,12 @@ REJECTED: List[Tuple[str, str, str, int, Variables, Files]] = [
 ]
 
 LOOKED = (
-    "looked for in PREFIX/var/lib/kumquatsieve\n"
-    "jseg: looked for in PREFIX/share/kumquatsieve\n"
-    "jseg: images there: "
+    "searched PREFIX/var/lib/kumquatsieve\n"
+    "jseg: searched PREFIX/share/kumquatsieve\n"
+    "jseg: available images: "
 )
 THERE = f"jseg: {LOOKED}both, installed, made\n"
-NOWHERE = "jseg: x: it is not there\njseg: x: F1 File\n"
+NOWHERE = "jseg: x: no such file or directory\njseg: x: F1 File\n"
 MANY = {f"{number:02}": b"" for number in range(19)}
 
 
@@ -186,31 +186,35 @@ SEARCHED = [
     searched(
         "dictc user -v --dic x --out new.img user.csv", (NOWHERE + THERE).replace("jseg", "dictc")
     ),
-    searched("jseg -v -d x", f"{NOWHERE}jseg: looked for in HERE/data/kumquatsieve\n{THERE}", DATA),
-    searched("jseg -v -d x", f"{NOWHERE}jseg: looked for in HERE/{OF_HOME}\n{THERE}", HOME),
+    searched("jseg -v -d x", f"{NOWHERE}jseg: searched HERE/data/kumquatsieve\n{THERE}", DATA),
+    searched("jseg -v -d x", f"{NOWHERE}jseg: searched HERE/{OF_HOME}\n{THERE}", HOME),
     searched(
         "jseg -v -d x",
-        f"{NOWHERE}jseg: looked for in HERE/data/kumquatsieve\n"
+        f"{NOWHERE}jseg: searched HERE/data/kumquatsieve\n"
         f"jseg: {LOOKED}{', '.join(MANY)}, a and 3 more\n",
         DATA,
         user_images(**MANY, a=b""),
     ),
     searched(
-        "jseg -v -d x", f"jseg: x: it is a directory\njseg: x: F1 File\n{THERE}", files={"x": {}}
+        "jseg -v -d x", f"jseg: x: is a directory\njseg: x: F1 File\n{THERE}", files={"x": {}}
     ),
-    searched("jseg -v -d ./x", NOWHERE.replace("x:", "./x:"), lacks=("looked for", "images there")),
+    searched(
+        "jseg -v -d ./x", NOWHERE.replace("x:", "./x:"), lacks=("searched", "available images")
+    ),
     searched(
         "jseg -v --sources x",
-        "jseg: x/matrix.def: it is not there\njseg: x/matrix.def: F1 File\n",
-        lacks=("looked for", "images there"),
+        "jseg: x/matrix.def: no such file or directory\njseg: x/matrix.def: F1 File\n",
+        lacks=("searched", "available images"),
     ),
     searched(
         "bare-jseg -v -d x",
-        f"{NOWHERE}jseg: {LOOKED}none; kumquatsieve-import makes one\n".replace(
+        f"{NOWHERE}jseg: {LOOKED}none; install one with kumquatsieve-import\n".replace(
             "PREFIX", "PREFIX/bare"
         ),
     ),
-    searched("jseg -d x", "jseg: x: F1 File\n", lacks=("looked for", "images there", "not there")),
+    searched(
+        "jseg -d x", "jseg: x: F1 File\n", lacks=("searched", "available images", "no such file")
+    ),
     Case(
         "where it was looked for, on a terminal",
         "jseg -d x",

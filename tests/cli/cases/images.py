@@ -98,6 +98,7 @@ UNTESTED = {
     "digest.img": changed(LAYOUT_3, (960, bytes([LAYOUT_3[960] ^ 1]))),
     "feature.img": changed(LAYOUT_3, (928, b"Y")),
 }
+BAD_MAGIC = {"bad.img": changed(LAYOUT_1, (0, b"\0"))}
 OTHER_SIZES = {"other.img": changed(LAYOUT_1, (20, b"\3"))}
 ENDLESS = [
     "jseg -d /dev/zero",
@@ -175,6 +176,22 @@ CASES = [run for row in REFUSED for run in rejected(*row)] + [
         err="other.img: O3 OtherSizes 0",
         status=1,
         files=OTHER_SIZES,
+    ),
+    Case(
+        "an invalid image before a missing one",
+        "jseg -d sys.img -u bad.img -u none.img",
+        "も\n",
+        err="bad.img: L2 BadMagic",
+        status=1,
+        files=BAD_MAGIC,
+    ),
+    Case(
+        "a missing image before an invalid one",
+        "jseg -d sys.img -u none.img -u bad.img",
+        "も\n",
+        err="none.img: F1 File",
+        status=3,
+        files=BAD_MAGIC,
     ),
     Case("O1 before O2", "jseg -d user.img -u sys.img", err="user.img: O1 NotSystem", status=1),
     Case(

@@ -77,6 +77,17 @@ CASES = [
         status=3,
         conditions=Conditions(stdin="failing"),
     ),
+    *(
+        large_case(
+            f"only the second read fails, of {lines} lines",
+            LINE * lines,
+            SUMOMO * lines,
+            err=from_jseg(f"line {lines + 1}: G1 Read"),
+            status=3,
+            conditions=Conditions(stdin="reset"),
+        )
+        for lines in (1, 2_100)
+    ),
     large_case(
         "a user that does not fit",
         LINE * 5_000,

@@ -24,7 +24,7 @@ from .texts import MO
 LINE = "3 entries, 0 skipped\n"
 COMPILED: Changes = {"new.img": "sys.img"}
 ANY_IMAGE: Changes = {"new.img": ANY}
-NOTE = "dictc: mark.csv begins with a byte order mark, which counts as text\n"
+NOTE = "dictc: warning: mark.csv: the file starts with a byte order mark, which counts as text\n"
 READING = Erased(f"reading /dev/stdin: {len(MATRIX)} bytes{ERASED}")
 MARKED: Files = {"mark.csv": MARK + LEXICON}
 FROM_INPUT = f"{SYSTEM.replace('a/matrix.def', '/dev/stdin')} a/lexicon.csv"
@@ -164,10 +164,10 @@ LONGEST: List[Tuple[str, Files, str]] = [
 ]
 
 STEPS = [
-    "connection costs of 2 right ids and 2 left ids",
-    "6 categories",
-    "unknown words",
-    "3 entries up to a/lexicon.csv",
+    "read connection costs: 2 right ids, 2 left ids",
+    "read 6 character categories",
+    "read unknown words",
+    "3 entries after reading a/lexicon.csv",
 ]
 SHARES = [
     "connection costs: 8 bytes",
@@ -217,7 +217,7 @@ CASES = [
         "a mark before a lexicon",
         f"{SYSTEM} -v mark.csv",
         out=LINE,
-        err=Has("", ("mark.csv begins with a byte order mark",)),
+        err=Has("", ("mark.csv: the file starts with a byte order mark",)),
         files={"mark.csv": MARK + LEXICON},
         changes=ANY_IMAGE,
     ),
@@ -269,7 +269,7 @@ CASES = [
             (
                 "loaded sys.img",
                 "read user.csv: ",
-                "1 entries up to user.csv",
+                "1 entries after reading user.csv",
                 "sorted 1 entries",
                 "wrote new.img: ",
             ),
@@ -282,6 +282,6 @@ CASES = [
         "jseg -d sys.img -v",
         "も\n",
         MO,
-        err=Has("jseg: ", ("loaded sys.img", "cut 1 lines")),
+        err=Has("jseg: ", ("loaded sys.img", "segmented 1 lines")),
     ),
 ]

@@ -66,8 +66,15 @@ def invalid_lexicon(data: bytes, line: int, error: str) -> Iterator[Case]:
     yield Case(f"{error} of a user", f"{USER} bad.csv", err=err, status=1, files=files)
 
 
-CASES = [run for row in DEFINITIONS for run in invalid_definition(*row)] + [
-    run for row in LEXICONS for run in invalid_lexicon(*row)
+CASES = [
+    *(run for row in DEFINITIONS for run in invalid_definition(*row)),
+    *(run for row in LEXICONS for run in invalid_lexicon(*row)),
+    Case(
+        "a matrix.def that never ends",
+        f"{SYSTEM.replace('a/matrix.def', '/dev/zero')} a/lexicon.csv",
+        err="/dev/zero:1: M1 BadHeader",
+        status=1,
+    ),
 ]
 
 # With --all-faults: the errors of each file, first of its lines and then of its ids. Nothing is
@@ -82,7 +89,7 @@ ERRORS = [
 ]
 LONG_LINE = "も" * 300
 TWENTY = b"".join(b"%d,1,1\n" % number for number in range(25))
-MORE = "dictc: 20 faults were reported, and there may be more\n"
+MORE = "dictc: 20 errors were reported; there may be more\n"
 
 
 def printed_errors(path: str, errors: Sequence[Tuple[int, str, str]]) -> str:

@@ -10,7 +10,7 @@ MEMORY = Conditions(memory=512 << 20)
 FULL, CLOSED, UNREAD = (Conditions(stdout=stdout) for stdout in ("full", "closed", "unread"))
 INTERRUPTED = Conditions(stdout="file", fails="interrupted write")
 DEVICES = [("full", FULL), ("closed", CLOSED), ("unread", UNREAD)]
-CUTS = ["jseg --sample", "jseg -d sys.img"]
+SEGMENTING = ["jseg --sample", "jseg -d sys.img"]
 HELP = ["dictc --help", "dictc system --help", "dictc user --help", "jseg --help"]
 
 CASES = [
@@ -46,7 +46,19 @@ CASES = [
             status=3,
             conditions=RESET,
         )
-        for command in CUTS
+        for command in SEGMENTING
+    ),
+    *(
+        Case(
+            f"{command}, of input whose second read alone fails",
+            command,
+            "も\nも\n",
+            MO + MO,
+            "line 3: G1 Read",
+            3,
+            conditions=RESET,
+        )
+        for command in SEGMENTING
     ),
     *(
         Case(
@@ -95,7 +107,7 @@ CASES = [
             status=3,
             conditions=INTERRUPTED,
         )
-        for command in CUTS
+        for command in SEGMENTING
     ),
     *(
         Case(f"{command}, interrupted", command, err="F2 Output", status=3, conditions=INTERRUPTED)

@@ -57,6 +57,7 @@ OTHERS = {
     "y.csv": b"a,1,1,10,Y\n",
     "-z.csv": b"a,1,1,10,Z\n",
     "skipped.csv": "\n,1,1,5,X\n,x,y,z,w\nも,1,1,20,Y\r\n".encode(),
+    "lexicon_lines.csv": "\n,1,1,5,X\nも,1,1,20,Y\r\n".encode(),
     "quoted.csv": b'"a,b",1,1,10,X\n"a""b",1,1,10,Y',
     "none.csv": b"",
     "none.def": b"",
@@ -99,6 +100,7 @@ COMPILED = [
     ("in the other order", f"{SYSTEM} y.csv x.csv", "a", "2 entries, 0 skipped", "a Y;25"),
     ("a path with a hyphen", f"{SYSTEM} -- -z.csv", "a", "1 entries, 0 skipped", "a Z;25"),
     ("skipped lines", f"{SYSTEM} skipped.csv", "も", "1 entries, 2 skipped", "も Y;35"),
+    ("lexicon_lines", f"{SYSTEM} lexicon_lines.csv", "も", "1 entries, 1 skipped", "も Y;35"),
     ("quoted surfaces", f"{SYSTEM} quoted.csv", 'a,ba"b', "2 entries, 0 skipped", 'a,b X;a"b Y;42'),
     ("no entry", f"{SYSTEM} none.csv", "も", "0 entries, 0 skipped", "も 未知;1015"),
 ]

@@ -8,7 +8,7 @@ from .cases import CASES, COMMAND, IMAGES, LINES
 from .shells import FILE, FOLDER, complete_by_bash, complete_by_zsh, has_terminals, line_after_tab
 
 Complete = Callable[[Sequence[str], Path], Set[str]]
-PROGRAMS = ("jseg", "dictc", "kumquatsieve-cut", "kumquatsieve-import")
+PROGRAMS = ("jseg", "dictc", "pjseg", "kumquatsieve-import")
 
 
 def shells() -> Dict[str, Complete]:

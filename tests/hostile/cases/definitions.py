@@ -6,8 +6,10 @@ from typing import Iterator, NamedTuple, Optional
 from hostile.cases.dictionaries import CATEGORIES, Sources
 from hostile.cases.measuring import MEMORY, Case, Run
 
-# Bytes of memory in which dictc reads a row of any length.
+# Bytes of memory in which dictc reads short rows, however many. It holds a long row whole, in a
+# buffer that doubles.
 ROW_MEMORY = 16 << 20
+BUFFER_GROWTH = 2
 ONE_ENTRY = b"1 entries, 0 skipped\n"
 
 
@@ -53,18 +55,20 @@ class Compiler:
         return Run(command, statuses=(1,), error=error, memory=memory)
 
 
-def one_line(options: argparse.Namespace, folder: Path) -> Case:
-    """A matrix.def whose bytes are all on one line, which is no header, beside one of rows."""
+def one_line(options: argparse.Namespace, folder: Path) -> Iterator[Case]:
+    """Each matrix.def whose bytes are all on one line, which is no header, beside one of rows."""
     compiler = Compiler(options, folder / "one line")
-    honest, hostile = folder / "rows.def", folder / "line.def"
+    honest = folder / "rows.def"
     honest.write_text("2 2\n" + "1 1 12\n" * (options.bytes // 7))
-    hostile.write_text("1 1 1 1 " * (options.bytes // 8))
-    return Case(
-        "matrix.def of a line",
-        f"{options.bytes} bytes",
-        compiler.run("matrix", honest),
-        compiler.run("matrix", hostile, error=b""),
-    )
+    for name, piece in {"a line": "1 1 1 1 ", "a zero": "0" * 8}.items():
+        hostile = folder / f"{name}.def"
+        hostile.write_text(piece * (options.bytes // 8))
+        yield Case(
+            f"matrix.def of {name}",
+            f"{options.bytes} bytes",
+            compiler.run("matrix", honest),
+            compiler.run("matrix", hostile, error=b":1: M1 BadHeader\n"),
+        )
 
 
 def write_long(path: Path, start: bytes, piece: bytes, count: int, end: bytes = b"") -> None:
@@ -78,7 +82,10 @@ def write_long(path: Path, start: bytes, piece: bytes, count: int, end: bytes = 
 
 
 def long_rows(options: argparse.Namespace, folder: Path) -> Iterator[Case]:
-    """Rows of any length, beside rows of as many bytes. None fits into the memory of the run."""
+    """A long row, beside short rows of as many bytes, which don't fit into the memory of their run.
+
+    The long row fits into its own, but a second buffer of its size does not.
+    """
     compiler = Compiler(options, folder / "long rows")
     rows = folder / "long rows" / "rows.def"
     write_long(rows, b"2 2\n", b"1 1 12\n", options.row)
@@ -87,7 +94,8 @@ def long_rows(options: argparse.Namespace, folder: Path) -> Iterator[Case]:
         path = rows.with_name(f"{name}.def")
         write_long(path, b"2 2\n" + row.start, row.piece, options.row, row.end)
         error = b":2: M2 BadRow\n" if row.is_rejected else None
-        hostile = compiler.run("matrix", path, ROW_MEMORY, error)
+        memory = ROW_MEMORY + BUFFER_GROWTH * options.row
+        hostile = compiler.run("matrix", path, memory, error)
         yield Case(f"a row of {name}", f"{options.row} bytes", honest, hostile)
 
 

@@ -44,11 +44,11 @@ def charset(name: str, key: str = "config-charset") -> bytes:
 
 
 def choice(*summaries: str) -> str:
-    return "dic: --encoding has to choose: " + "; ".join(summaries)
+    return "dic: the encoding is ambiguous, choose one with --encoding: " + "; ".join(summaries)
 
 
 def all_fail(at: str) -> List[str]:
-    return [f"{name} fails first at dic/{at}" for name in ("UTF-8", "EUC-JP", "EUC-JIS-2004")]
+    return [f"{name} first fails at dic/{at}" for name in ("UTF-8", "EUC-JP", "EUC-JIS-2004")]
 
 
 WORDS = FILES["lexicon.csv"].decode()
@@ -59,12 +59,15 @@ MIDDLE = b"\xe4\xb8\xad\xe4\xb8\xad,1,1,5,X\n"
 ONE = b"\xad\xa1,1,1,5,X\n"
 EUC_BROKEN = b"\xa4,1,1,5,X\n"
 ISO = {name: data.decode().encode("iso2022_jp") for name, data in FILES.items()}
-ESCAPED = "has an escape sequence, as ISO-2022-JP has: give --encoding iso-2022-jp, or another one"
+ESCAPED = (
+    "has an escape sequence of ISO-2022-JP: "
+    "use --encoding iso-2022-jp, or the encoding that the file has"
+)
 MIXED = (
-    "all files have to be in one encoding, which --encoding names: "
+    "all files must have the same encoding, which --encoding can set to "
     "utf-8, euc-jp, euc-jis-2004, cp932 or iso-2022-jp"
 )
-ANY = ("UTF-8 fits", "EUC-JP fits", "EUC-JIS-2004 fits", "CP932 makes half-width kana")
+ANY = ("UTF-8 fits", "EUC-JP fits", "EUC-JIS-2004 fits", "CP932 would give half-width kana")
 CASES: List[Case] = [
     Case("UTF-8", FILES, "UTF-8"),
     Case("EUC-JP", in_code("euc_jp"), "EUC-JP"),
@@ -72,7 +75,7 @@ CASES: List[Case] = [
     Case("ASCII", plain(a_csv=b"A,1,1,5,X\n"), "UTF-8", utf_8(a_csv="A,1,1,5,X\n")),
     Case("UTF-8 whatever dicrc says", {**FILES, "dicrc": charset("EUC-JP")}, "UTF-8"),
     Case("EUC-JP whatever dicrc says", {**in_code("euc_jp"), "dicrc": charset("utf8")}, "EUC-JP"),
-    # NEC's characters, and others that stand at one place in one code only
+    # NEC's characters, and others that one encoding alone has at their position
     Case("NEC's in EUC-JP", in_code("euc_jp", a_csv=ONE), "EUC-JP", utf_8(a_csv="①,1,1,5,X\n")),
     Case(
         "NEC's that JIS X 0213 lacks",
@@ -96,10 +99,10 @@ CASES: List[Case] = [
         "JIS X 0213",
         in_code("euc_jp", a_csv=b"\xcf\xd4,1,1,5,X\n" * 2 + WORDS.encode("euc_jp")),
         err=choice(
-            "UTF-8 fails first at dic/unk.def:1",
-            "EUC-JP fails first at dic/a.csv:1",
+            "UTF-8 first fails at dic/unk.def:1",
+            "EUC-JP first fails at dic/a.csv:1",
             "EUC-JIS-2004 fits",
-            "CP932 fails first at dic/a.csv:3",
+            "CP932 first fails at dic/a.csv:3",
         ),
     ),
     Case(
@@ -131,7 +134,7 @@ CASES: List[Case] = [
     Case(
         "half-width kana alone",
         plain(a_csv=KANA),
-        err=choice(*all_fail("a.csv:1"), "CP932 makes half-width kana"),
+        err=choice(*all_fail("a.csv:1"), "CP932 would give half-width kana"),
     ),
     Case(
         "half-width kana named",
@@ -178,32 +181,32 @@ CASES: List[Case] = [
         in_code("euc_jp", a_csv=EUC_BROKEN + b"A,1,1,5,X\n" + "ん,1,1,5,X\n".encode("euc_jp") * 2),
         "EUC-JP",
         utf_8(a_csv="A,1,1,5,X\n" + "ん,1,1,5,X\n" * 2),
-        ("a.csv:1: it is not EUC-JP",),
+        ("a.csv:1: not EUC-JP",),
     ),
     Case(
         "a broken comment",
         {**FILES, "char.def": b"# \xff\n" + "# あ\n".encode() * 2 + FILES["char.def"]},
         "UTF-8",
         {},
-        ("char.def:1: it is not UTF-8",),
+        ("char.def:1: not UTF-8",),
     ),
     Case(
         "a file in another code",
         {**in_code("euc_jp"), "user.csv": "ん,1,1,5,X\n".encode()},
-        err=f"dic/user.csv: 1 of 1 lines with more than ASCII are not EUC-JP: {MIXED}",
+        err=f"dic/user.csv: 1 of 1 non-ASCII lines are not EUC-JP: {MIXED}",
     ),
     Case(
         "a large file in another code",
         in_code("euc_jp", A_csv=N.encode() * 200, z_csv=N.encode("euc_jp") * 1000),
         err=choice(
-            "UTF-8 fails first at dic/unk.def:1",
-            *(f"{name} fails first at dic/A.csv:1" for name in ("EUC-JP", "EUC-JIS-2004", "CP932")),
+            "UTF-8 first fails at dic/unk.def:1",
+            *(f"{name} first fails at dic/A.csv:1" for name in ("EUC-JP", "EUC-JIS-2004", "CP932")),
         ),
     ),
     Case(
         "the wrong code named",
         FILES,
-        err=f"dic/unk.def: 6 of 6 lines with more than ASCII are not EUC-JP: {MIXED}",
+        err=f"dic/unk.def: 6 of 6 non-ASCII lines are not EUC-JP: {MIXED}",
         options=("--encoding", "euc"),
     ),
     Case(
@@ -212,7 +215,7 @@ CASES: List[Case] = [
             name: data if name == "matrix.def" else data.decode().encode("utf-16")
             for name, data in FILES.items()
         },
-        err=choice(*all_fail("char.def:1"), "CP932 fails first at dic/char.def:1"),
+        err=choice(*all_fail("char.def:1"), "CP932 first fails at dic/char.def:1"),
     ),
     # escape sequences
     Case("ISO-2022-JP", ISO, err=f"dic/unk.def:1 {ESCAPED}"),

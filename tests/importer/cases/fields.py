@@ -14,7 +14,7 @@ UNIDIC = (
     "iType iForm fType fForm"
 )
 UNIDIC_ACCENTS = f"{UNIDIC} kana kanaBase form formBase iConType fConType aType aConType aModType"
-UNKNOWN = "not named: dicrc is that of no dictionary whose fields are known"
+UNKNOWN = "not named: dicrc belongs to no dictionary whose field names are known"
 
 
 class Case(NamedTuple):
@@ -88,7 +88,7 @@ CASES: List[Case] = [
         "a list for another number",
         listing("pos1 lemma"),
         {"a.csv": entries(3)},
-        "not named: each entry has 3, and dicrc is that of a dictionary with 2",
+        "not named: each entry has 3, but dicrc belongs to a dictionary with 2",
     ),
     Case("a list without a beginning", "; f[1]: lemma\n", {"a.csv": entries(2)}, UNKNOWN),
     Case("a list of one name", listing("pos1 pos1"), {"a.csv": entries(2)}, UNKNOWN),
@@ -128,7 +128,7 @@ CASES: List[Case] = [
         "another number",
         LIKE_IPADIC,
         {"a.csv": entries(10)},
-        "not named: each entry has 10, and dicrc is that of a dictionary with 9 or 11",
+        "not named: each entry has 10, but dicrc belongs to a dictionary with 9 or 11",
     ),
     Case(
         "two numbers in a file",
@@ -142,7 +142,7 @@ CASES: List[Case] = [
         {"b.csv": entries(8), "a.csv": entries(9)},
         "not named: dic/a.csv:1 has 9, and dic/b.csv:1 has 8",
     ),
-    Case("no entry", LIKE_IPADIC, {"a.csv": "\n"}, "not named: there is no entry"),
+    Case("no entry", LIKE_IPADIC, {"a.csv": "\n"}, "not named: there are no entries"),
 ]
 
 

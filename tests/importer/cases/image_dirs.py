@@ -1,4 +1,4 @@
-"""Where an image goes that is named by its dictionary alone.
+"""The path of an image that is named by its dictionary alone.
 
 jseg and kumquatsieve-import find it there by its name.
 """
@@ -15,8 +15,8 @@ from .common import FILES, NAME, NOBODY, lay
 
 WORDS = "すもも もも \nもも もも \n"
 SYSTEM = "PREFIX/var/lib/kumquatsieve"
-OWN = f"home: this user's own, since {SYSTEM} can't be written"
-ALL = "home: the system's, for all users"
+OWN = f"image directory: this user's own, because {SYSTEM} is not writable"
+ALL = "image directory: the system's, for all users"
 # How long a command may take, which would wait for ever if it opened a FIFO.
 SECONDS = 120
 
@@ -127,7 +127,11 @@ def image_failures(
 ) -> Iterator[str]:
     """Yields what is wrong with an import, and with the image that it installed."""
     image_dir = located(case.image_dir, programs, work)
-    found = [line for line in done.stdout.splitlines() if line.startswith(("image: ", "home: "))]
+    found = [
+        line
+        for line in done.stdout.splitlines()
+        if line.startswith(("image: ", "image directory: "))
+    ]
     message = located(case.message, programs, work)
     is_reported = len(found) == 2 and found[0].startswith(f"image: {image_dir}/dic.img, ")
     if done.returncode != 0 or not is_reported or found[1] != message:

@@ -13,9 +13,11 @@ from .user_dictionaries import USAGE
 LOCALES = (("ja_JP.EUC-JP", "ja_JP", "EUC-JP"), ("en_US.ISO-8859-1", "en_US", "ISO-8859-1"))
 NAME = "日本語の辞書".encode()
 WORD = "ん,1,1,5,X\n".encode()
-NO_OPTION = "is no option, or lacks its value; a name that begins with - stands after --"
+NO_OPTION = (
+    "is not an option, or its value is missing; write a file name that starts with - after --"
+)
 REJECTED = b"--" + NAME + f" {NO_OPTION}; {USAGE}".encode()
-CHOICES = b" is not known; it takes utf-8, euc-jp, euc-jis-2004, cp932 or iso-2022-jp"
+CHOICES = b" is not supported; choose utf-8, euc-jp, euc-jis-2004, cp932 or iso-2022-jp"
 PLAIN = {"LC_ALL": "C", "PYTHONUTF8": "0", "PYTHONCOERCECLOCALE": "0"}
 
 
@@ -33,7 +35,7 @@ CASES = [
     Case("a folder and an image", (NAME, NAME + b".img"), NAME + b".img"),
     Case("any bytes", (NAME, b"\xff\xa4.img"), b"\xff\xa4.img"),
     Case("an option's value", ("--encoding=utf-8", NAME, b"new.img"), b"new.img"),
-    Case("no folder", (NAME + b"s", b"new.img"), err=NAME + b"s is no folder", status=3),
+    Case("no folder", (NAME + b"s", b"new.img"), err=NAME + b"s is not a directory", status=3),
     Case("an option", (b"--" + NAME,), err=REJECTED, status=2),
     Case("no encoding", (b"--encoding", NAME), err=b"--encoding " + NAME + CHOICES, status=2),
 ]

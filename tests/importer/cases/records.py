@@ -4,7 +4,7 @@ import os
 import shutil
 import subprocess
 from pathlib import Path
-from typing import Any, Callable, Iterator, List, NamedTuple, Optional, Tuple
+from typing import Any, Callable, Iterator, List, NamedTuple, Optional, Sequence, Tuple
 
 from cli.cases.images import LAYOUT_1, LAYOUT_2, LAYOUT_3, changed, with_digest
 
@@ -12,8 +12,8 @@ from .common import FILES, NAME, NOBODY, compiled, lay
 from .system_errors import can_run
 from .user_dictionaries import USAGE
 
-USAGE_ERROR = f"--test wants images, and no other option but -v; {USAGE}"
-OTHERS = "its group or all users may write"
+USAGE_ERROR = f"--test requires images, and excludes all options except -v; {USAGE}"
+OTHERS = "its group or all users can write"
 # A jseg that changes an image after the tests.
 LATE = """#!/bin/sh
 "$JSEG" "$@"
@@ -21,7 +21,7 @@ status=$?
 {change}
 exit $status
 """
-CHANGED = "it was changed or replaced during the tests"
+CHANGED = "changed or replaced during the tests"
 LONG = "x" * 251 + ".img"
 HOME = "home/kumquatsieve"
 
@@ -121,10 +121,13 @@ def damaged(work: Path) -> None:
     (work / "a.tested").write_text("old")
 
 
-BY_ALL = f"{OTHERS} it (chmod go-w)"
-IN_FOLDER = f"{OTHERS} in its folder (chmod go-w)"
+BY_ALL = f"{OTHERS} to it (chmod go-w)"
+IN_FOLDER = f"{OTHERS} to its directory (chmod go-w)"
 NO_FD = "/proc/self/fd: No such file or directory"
-NONE = "none: No such file or directory"
+NONE = (
+    "none: No such file or directory; searched HOME, PREFIX/var/lib/kumquatsieve, "
+    "PREFIX/share/kumquatsieve; available images: mine"
+)
 BAD_ID = "L6 BadToken 0"
 BAD_1, BAD_3 = changed(LAYOUT_1, (120, b"\2")), with_digest(changed(LAYOUT_2, (914, b"\2")))
 OLD = written("new.tested", b"old")
@@ -140,13 +143,13 @@ CASES = [
     passed("a path", "dir/a.img", change=copied("dir/a.img")),
     Case("a bare name", ("mine",), ("tested: HOME/mine.img",), recorded=(f"{HOME}/mine.img",)),
     # what has no record
-    unrecorded("a link", "link.img", "it is a link to a.img"),
+    unrecorded("a link", "link.img", "is a link to a.img"),
     unrecorded("all may write it", "a.img", BY_ALL, moded("a.img", 0o666)),
     unrecorded("its group may write it", "a.img", BY_ALL, moded("a.img", 0o664)),
     unrecorded("all may write its folder", "a.img", IN_FOLDER, moded(".", 0o777)),
     unrecorded("layout 1", "1.img", "its layout 1 has no checksum"),
     unrecorded("layout 2", "2.img", "its layout 2 has no checksum"),
-    unrecorded("the future", "a.img", "its time of change lies in the future", dated),
+    unrecorded("the future", "a.img", "its change time is in the future", dated),
     unrecorded("a long name", LONG, "File name too long", copied(LONG)),
     unrecorded("another user's", "a.img", "Permission denied", is_other=True),
     unrecorded("no room", "small/a.img", "No space left on device", status=3, before=FULL),
@@ -263,7 +266,7 @@ def failures(case: Case, programs: Path, work: Path) -> Iterator[str]:
         group=user,
         extra_groups=groups,
     )
-    yield from printed_failures(case, done, work)
+    yield from printed_failures(case, done, programs, work)
     records = {path: path.read_text() for path in work.rglob("*.tested")}
     expected = {record_path(work / image): text_of(work / image) for image in case.recorded}
     if records != expected:
@@ -276,13 +279,18 @@ def failures(case: Case, programs: Path, work: Path) -> Iterator[str]:
     shutil.rmtree(work.parent / "late", ignore_errors=True)
 
 
+def located(lines: Sequence[str], programs: Path, work: Path) -> Tuple[str, ...]:
+    """Returns expected lines with the directories of this run."""
+    named = (line.replace("HOME", str(work / HOME)) for line in lines)
+    return tuple(line.replace("PREFIX", str(programs.parent)) for line in named)
+
+
 def printed_failures(
-    case: Case, done: "subprocess.CompletedProcess[str]", work: Path
+    case: Case, done: "subprocess.CompletedProcess[str]", programs: Path, work: Path
 ) -> Iterator[str]:
     """Yields what is wrong with the lines about tests, with the errors, and with the status."""
     out = tuple(line for line in done.stdout.splitlines() if "tested" in line.split(":")[0])
     err = tuple(line.removeprefix(f"{NAME}: ") for line in done.stderr.splitlines())
-    expected_out = tuple(line.replace("HOME", str(work / HOME)) for line in case.out)
-    expected = expected_out, case.err, case.status
+    expected = located(case.out, programs, work), located(case.err, programs, work), case.status
     if (out, err, done.returncode) != expected:
         yield f"prints {out}, {err}, status {done.returncode}, expected {expected}"

@@ -7,17 +7,17 @@ from .reports import Case, failures
 from .user_dictionaries import USAGE
 
 NAMES = "utf-8, euc-jp, euc-jis-2004, cp932 or iso-2022-jp"
-USAGE_ERROR = f"a folder is wanted, and the image to write; {USAGE}"
+USAGE_ERROR = f"a directory of sources and the image to write are required; {USAGE}"
 NO_CONVERTER = (
-    "this Python has no converter of euc_jp: "
-    "it lacks a part of its library (Debian: apt install python3)"
+    "this Python cannot convert euc_jp: "
+    "a part of its library is missing (Debian: apt install python3)"
 )
-ONLY_FOLDER = "so it is no folder of sources"
+ONLY_FOLDER = "so it is not a directory of sources"
 
 
 def no_option(word: str) -> str:
-    why = f"{word} is no option, or lacks its value"
-    return f"{why}; a name that begins with - stands after --; {USAGE}"
+    why = f"{word} is not an option, or its value is missing"
+    return f"{why}; write a file name that starts with - after --; {USAGE}"
 
 
 def rejected(name: str, files: Files, err: str, status: int, *arguments: str) -> Case:
@@ -46,9 +46,9 @@ def without(missing: str) -> Files:
 
 CASES: List[Case] = [
     rejected(
-        "fields are a folder", FILES, "{work}/held.fields: it is a folder", 3, "dic", "held.img"
+        "fields are a folder", FILES, "{work}/held.fields: is a directory", 3, "dic", "held.img"
     ),
-    rejected("no folder", {}, "none is no folder", 3, "none", "new.img"),
+    rejected("no folder", {}, "none is not a directory", 3, "none", "new.img"),
     rejected("no sources", {"sys.dic": b""}, f"dic has no matrix.def, {ONLY_FOLDER}", 3),
     rejected(
         "no unk.def",
@@ -59,15 +59,15 @@ CASES: List[Case] = [
     rejected(
         "no lexicon",
         without("lexicon.csv"),
-        "dic has no file that ends with .csv",
+        "dic has no .csv file",
         3,
     ),
-    rejected("a folder", with_folder("x.csv"), "dic/x.csv: it is a folder", 3),
-    rejected("a pipe", with_pipe("x.csv"), "dic/x.csv: it is no file, but a pipe or a device", 3),
+    rejected("a folder", with_folder("x.csv"), "dic/x.csv: is a directory", 3),
+    rejected("a pipe", with_pipe("x.csv"), "dic/x.csv: is a pipe or a device, not a file", 3),
     rejected(
         "a link to nothing",
         with_link("x.csv"),
-        "dic/x.csv: it is a link to nothing, which is not there",
+        "dic/x.csv: is a link to nothing, which does not exist",
         3,
     ),
     rejected(
@@ -78,18 +78,22 @@ CASES: List[Case] = [
         "dic",
         "none/new.img",
     ),
-    rejected("the image is a folder", FILES, "dic: it is a folder", 3, "dic", "dic"),
-    rejected("a slash after a folder", FILES, "dic/: it is a folder", 3, "dic", "dic/"),
-    rejected("a slash after the image", FILES, "new/ is no file name", 3, "dic", "new/"),
-    rejected("a slash after a file", FILES, "a.img/ is no file name", 3, "dic", "a.img/"),
-    rejected("a dot after the image", FILES, "new/. is no file name", 3, "dic", "new/."),
+    rejected("the image is a folder", FILES, "dic: is a directory", 3, "dic", "dic"),
+    rejected("a slash after a folder", FILES, "dic/: is a directory", 3, "dic", "dic/"),
+    rejected("a slash after the image", FILES, "new/ is not a file name", 3, "dic", "new/"),
+    rejected("a slash after a file", FILES, "a.img/ is not a file name", 3, "dic", "a.img/"),
+    rejected("a dot after the image", FILES, "new/. is not a file name", 3, "dic", "new/."),
     rejected(
-        "no image", FILES, "give the image to write: kumquatsieve-import ./dic IMG", 2, "./dic"
+        "no image",
+        FILES,
+        "the image to write is missing: kumquatsieve-import ./dic IMG",
+        2,
+        "./dic",
     ),
     rejected(
         "the image is a source",
         FILES,
-        "dic/unk.def is a file of the folder that is read: dic/unk.def",
+        "dic/unk.def would overwrite a source file: dic/unk.def",
         2,
         "dic",
         "dic/unk.def",
@@ -97,7 +101,7 @@ CASES: List[Case] = [
     rejected(
         "by another path",
         FILES,
-        "dic/../dic/unk.def is a file of the folder that is read: dic/unk.def",
+        "dic/../dic/unk.def would overwrite a source file: dic/unk.def",
         2,
         "dic",
         "dic/../dic/unk.def",
@@ -105,7 +109,7 @@ CASES: List[Case] = [
     rejected(
         "by a link",
         FILES,
-        "link.img is a file of the folder that is read: dic/unk.def",
+        "link.img would overwrite a source file: dic/unk.def",
         2,
         "dic",
         "link.img",
@@ -113,7 +117,7 @@ CASES: List[Case] = [
     rejected(
         "by another name",
         FILES,
-        "hard.img is a file of the folder that is read: dic/unk.def",
+        "hard.img would overwrite a source file: dic/unk.def",
         2,
         "dic",
         "hard.img",
@@ -121,7 +125,7 @@ CASES: List[Case] = [
     rejected(
         "another file",
         {**FILES, "notes": b"x"},
-        "dic/notes is a file of the folder that is read: dic/notes",
+        "dic/notes would overwrite a source file: dic/notes",
         2,
         "dic",
         "dic/notes",
@@ -137,7 +141,7 @@ CASES: List[Case] = [
     rejected(
         "no encoding",
         {},
-        f"--encoding latin-1 is not known; it takes {NAMES}",
+        f"--encoding latin-1 is not supported; choose {NAMES}",
         2,
         "--encoding",
         "latin-1",

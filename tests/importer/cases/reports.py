@@ -12,25 +12,25 @@ WORDS = "すもも もも \nもも もも \n"
 
 
 HELP = """\
-Compiles a directory of MeCab's sources, or lexicons of your own, to an image for jseg
+Compiles the sources of a MeCab dictionary, or the lexicons of a user dictionary, to an image
 
 Usage: kumquatsieve-import [OPTIONS] DIR|ipadic|juman|naist|unidic [IMG]
        kumquatsieve-import [OPTIONS] --user <DIC> --out <IMG> LEX..
        kumquatsieve-import [-v] --test IMG..
 
 Arguments:
-  DIR                A directory of MeCab's sources
-  ipadic|..|unidic   The sources of this dictionary that a Debian package installed
-  IMG                The image to write, else it is installed by its name; the images to test
-  LEX                A lexicon of a user dictionary
+  DIR                Directory of MeCab sources
+  ipadic|..|unidic   Sources of this dictionary, as installed by a Debian package
+  IMG                Image to write [default: installed by name]; with --test, images to verify
+  LEX                Lexicon of a user dictionary
 
 Options:
-  --encoding <NAME>  The encoding of the sources, else it is found from them: utf-8, euc-jp,
-                     euc-jis-2004, cp932 or iso-2022-jp
-  --user <DIC>       Compile lexicons for a system dictionary, the path or name of an image
-  --out <IMG>        The image of the lexicons
-  --test             Test images whole, and record in NAME.tested which passed
-  -v, --verbose      Print each step on standard error
+  --encoding <NAME>  Encoding of the sources: utf-8, euc-jp, euc-jis-2004, cp932 or iso-2022-jp
+                     [default: detected from the sources]
+  --user <DIC>       Compile a user dictionary for this system dictionary, given by path or name
+  --out <IMG>        Image of the user dictionary to write
+  --test             Verify images completely, and record in NAME.tested that they passed
+  -v, --verbose      Print each step to standard error
   -h, --help         Print help
 """
 
@@ -51,7 +51,7 @@ class Case(NamedTuple):
 
 
 NO_DICRC = "fields: not named: there is no dicrc"
-OTHER_DICRC = "fields: not named: dicrc is that of no dictionary whose fields are known"
+OTHER_DICRC = "fields: not named: dicrc belongs to no dictionary whose field names are known"
 
 
 def imported(
@@ -87,7 +87,7 @@ def imported(
 
 BEGUN = "sources: dic\nencoding: UTF-8\n"
 NO_NUMBERS = 'もも,,,,名詞,ユーザ\n"a,b",1,1,,記号\nん,1,1,5,助詞\n\nす,1, ,5,X\n'.encode()
-EMPTY = "its ids or its cost are empty"
+EMPTY = "an id or the cost is empty"
 NUMBERS_LEFT_OUT = [f"user.csv:{line}: {EMPTY}" for line in (1, 2, 5)]
 NOTHING = b',,,,X\n "" ,,,,X\n'
 QUOTED_COMMAS = b' "a,,c",1,1,5,X\n\t"a"",,",1,1,5,X\n"a"b,1,1,5,X\na,"1" x, 1,5,X\n'
@@ -96,11 +96,9 @@ QUOTED_LEFT = [f"user.csv:{line}: {EMPTY}" for line in (1, 2, 3)]
 BAD_LINES = b"\x80\xff,1,1,5,X\n" + FILES["lexicon.csv"]
 SETTINGS = {"dicrc": b"bos-feature = X\n", "pos-id.def": "名詞 1\n".encode()}
 MISNUMBERED = b"a,,,,X\n\n\xff\na,1,1,5,X\nb,1,1,x,X\n" + "ん,1,1,5,X\n".encode() * 4
-MISNUMBERED_LEFT_OUT = (
-    f"left out: dic/user.csv:1: {EMPTY}\nleft out: dic/user.csv:3: it is not UTF-8\n"
-)
+MISNUMBERED_LEFT_OUT = f"left out: dic/user.csv:1: {EMPTY}\nleft out: dic/user.csv:3: not UTF-8\n"
 LONG = "x" * 251 + ".img"
-TOO_LONG = "whose name beside the image would be too long"
+TOO_LONG = "because its name beside the image would be too long"
 UNKEPT = f"not kept: dicrc, {TOO_LONG}\nnot kept: fields, {TOO_LONG}"
 UNRECORDED = "tested, not recorded: {image}: File name too long\n"
 CASES: List[Case] = [
@@ -138,7 +136,7 @@ CASES: List[Case] = [
     Case(
         "a bad line",
         {**FILES, "lexicon.csv": BAD_LINES},
-        imported(left_out=["lexicon.csv:1: it is not UTF-8"]),
+        imported(left_out=["lexicon.csv:1: not UTF-8"]),
     ),
     # MeCab's rule for fields: blanks before quotes are skipped, and text after the quotes is
     # dropped.

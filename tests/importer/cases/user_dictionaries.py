@@ -14,7 +14,7 @@ USAGE = (
     "or kumquatsieve-import [-v] [--encoding NAME] --user DIC --out IMG [--] LEX.., "
     "or kumquatsieve-import [-v] --test [--] IMG.."
 )
-USAGE_ERROR = f"a user's dictionary wants --user, --out and a lexicon; {USAGE}"
+USAGE_ERROR = f"a user dictionary requires --user, --out and a lexicon; {USAGE}"
 WORD = "ん,1,1,5,助詞\n"
 OTHER = "すもも,1,1,5,名詞\n"
 OPTIONS = ("--user", "sys.img", "--out", "new.img")
@@ -52,18 +52,18 @@ def not_found(name: str, *hints: str) -> Case:
 
     An import makes a file or directory with some of these names for itself.
     """
-    messages = f"{name}: it is not there", f"{name}: F1 File", *hints
+    messages = f"{name}: no such file or directory", f"{name}: F1 File", *hints
     err = f"\n{NAME}: ".join(messages)
     return rejected(f"no dictionary {name}", ONE, err, 3, "--user", name, "--out", "new.img")
 
 
 SEARCHED = ("HOME/kumquatsieve", "PREFIX/var/lib/kumquatsieve", "PREFIX/share/kumquatsieve")
-HINTS = (*(f"looked for in {folder}" for folder in SEARCHED), "images there: here")
+HINTS = (*(f"searched {folder}" for folder in SEARCHED), "available images: here")
 ONE = {"a.csv": WORD.encode()}
 BROKEN = {"a.csv": WORD.encode("euc_jp") * 2 + b"\xff,1,1,5,X\n"}
 CHOICE = (
-    "a.csv: --encoding has to choose: "
-    "UTF-8 fits; EUC-JP fits; EUC-JIS-2004 fits; CP932 makes half-width kana"
+    "a.csv: the encoding is ambiguous, choose one with --encoding: "
+    "UTF-8 fits; EUC-JP fits; EUC-JIS-2004 fits; CP932 would give half-width kana"
 )
 CASES = [
     Case("UTF-8", ONE, "UTF-8", {"a.csv": WORD}),
@@ -98,7 +98,7 @@ CASES = [
         options=(),
         arguments=("a.csv", *OPTIONS),
     ),
-    rejected("a broken line", BROKEN, "a.csv:3: it is not EUC-JP", 1, *in_encoding("euc-jp")),
+    rejected("a broken line", BROKEN, "a.csv:3: not EUC-JP", 1, *in_encoding("euc-jp")),
     rejected(
         "no numbers",
         {"a.csv": b"a,,,,X\n"},
@@ -110,7 +110,7 @@ CASES = [
     rejected(
         "the image is a lexicon",
         ONE,
-        "a.csv is a file that is read: a.csv",
+        "a.csv would overwrite an input file: a.csv",
         2,
         "--user",
         "sys.img",
@@ -120,7 +120,7 @@ CASES = [
     rejected(
         "the image is the system's",
         ONE,
-        "link.img is a file that is read: sys.img",
+        "link.img would overwrite an input file: sys.img",
         2,
         "--user",
         "sys.img",
@@ -130,7 +130,7 @@ CASES = [
     rejected(
         "the system's by its name",
         ONE,
-        "sys.img is a file that is read: HOME/kumquatsieve/here.img",
+        "sys.img would overwrite an input file: HOME/kumquatsieve/here.img",
         2,
         "--user",
         "here",
@@ -140,14 +140,14 @@ CASES = [
     rejected(
         "the image is a folder",
         ONE,
-        "folder: it is a folder",
+        "folder: is a directory",
         3,
         "--user",
         "sys.img",
         "--out",
         "folder",
     ),
-    rejected("a slash", ONE, "new/ is no file name", 3, "--user", "sys.img", "--out", "new/"),
+    rejected("a slash", ONE, "new/ is not a file name", 3, "--user", "sys.img", "--out", "new/"),
     rejected("no file", {}, "none.csv: No such file or directory", 3, arguments=("none.csv",)),
     rejected("no image", ONE, "text: L2 BadMagic", 1, "--user", "text", "--out", "new.img"),
     rejected(

@@ -62,7 +62,7 @@ def check_changing_image(built: Built) -> None:
     checksum = other.read_bytes()[-32:].hex()
     settings = f"; image-sha256 {checksum}\nbos-feature = OTHER\n"
     image.with_suffix(".dicrc").write_text(settings)
-    flags = ["-fsanitize=address", "-Wl,--wrap=kumquatsieve_open"]
+    flags = ["-fsanitize=address", "-Wl,--wrap=kumquatsieve_dictionary_open"]
     program = built.with_layer("changing_image.c", *flags)
     print(run([program, image, other]).decode(), end="", flush=True)
 

@@ -35,12 +35,12 @@ def groonga_output(context: Context) -> bytes:
     commands += [f"{SELECT.format(quoted(word))} --output_columns _id\n" for word in words]
     text = "".join(commands).encode()
     answers = context.run(["groonga", "-n", new_database(context)], text).decode().splitlines()
-    # The first item of an answer has its times.
+    # The first item of a response has its times.
     bodies = [json.dumps(json.loads(answer)[1:], ensure_ascii=False) for answer in answers]
     return "\n".join(bodies).encode()
 
 
 def groonga_server_output(context: Context) -> bytes:
-    """Returns the answers of a server with four threads to four clients."""
+    """Returns the responses of a server with four threads to four clients."""
     script = CLIENTS / "groonga_server.py"
     return context.run([PYTHON, script, context.lines, new_database(context)])

@@ -3,29 +3,29 @@ from libmecab.checks.settings_case import Case
 
 B = {"MECABRC": "HERE/rc"}
 DATA, RELATIVE = {"XDG_DATA_HOME": "HERE/data"}, {"XDG_DATA_HOME": "data"}
-SEARCHED, HINT = "looked for in OWN/, MADE/, SHARED/", "kumquatsieve-import makes an image"
+SEARCHED, HINT = "searched OWN/, MADE/, SHARED/", "compile an image with kumquatsieve-import"
 CASES = [
     Case(
         "an image by its name", ["-d", "own"], installed=("SHARED/own.img",), image="SHARED/own.img"
     ),
-    Case("a name of no image", ["-d", "own"], error="own: can't be opened"),
+    Case("a name of no image", ["-d", "own"], error="own: cannot be opened"),
     Case(
         "the directories that were searched",
         ["-d", "own"],
         installed=("MADE/b.img", "SHARED/b.img", "OWN/a.img"),
-        error=f"own: can't be opened: {SEARCHED}; images there: a, b; {HINT}\n",
+        error=f"own: cannot be opened: {SEARCHED}; available images: a, b; {HINT}\n",
     ),
     Case(
         "a user dictionary of a name that no image has",
         ["-d", "HERE/a.img", "-u", "own"],
-        error=f"own: can't be opened: {SEARCHED}; images there: none; {HINT}\n",
+        error=f"own: cannot be opened: {SEARCHED}; available images: none; {HINT}\n",
     ),
     Case(
         "a pipe is no image",
         ["-d", "own"],
         installed=("SHARED/x.img",),
         pipes=("MADE/own.img", "OWN/y.img"),
-        error=f"own: can't be opened: {SEARCHED}; images there: x; {HINT}\n",
+        error=f"own: cannot be opened: {SEARCHED}; available images: x; {HINT}\n",
     ),
     Case(
         "an image after a pipe of its name",
@@ -38,7 +38,7 @@ CASES = [
         "a pipe by its path",
         ["-d", "HERE/pipe.img"],
         pipes=("HERE/pipe.img",),
-        error="pipe.img: is no file",
+        error="pipe.img: not a regular file",
     ),
     Case(
         "an image in XDG_DATA_HOME",
@@ -62,7 +62,7 @@ CASES = [
         {},
         DATA,
         installed=("OWN/x.img",),
-        error="x: can't be opened",
+        error="x: cannot be opened",
     ),
     Case(
         "an image that was compiled on the machine",

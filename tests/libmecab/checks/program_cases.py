@@ -5,18 +5,18 @@ from typing import Union
 from libmecab.checks.common import FIELDS
 
 MOMO, SUMOMO = "もも\t名詞,もも\nEOS\n".encode(), "すもも\t名詞,すもも\nもも\t名詞,もも\nEOS\n".encode()
-LONG, LONG_CUT = ("もも" * 2_000 + "\n").encode(), ("もも " * 2_000 + "\n").encode()
+LONG, LONG_WORDS = ("もも" * 2_000 + "\n").encode(), ("もも " * 2_000 + "\n").encode()
 NOT_UTF8 = "もも".encode() + b"\xff\n" + "もも\n".encode() + b"\xff\xff\n"
 # Blanks that are longer than a node's length can be, and longer than a line of the library.
 BLANKS, MORE_BLANKS = b" " * 66_000, b" " * 1_100_000
-NEXT, NEXT_CUT = "もも\n".encode(), "もも \n".encode()
+NEXT, NEXT_WORDS = "もも\n".encode(), "もも \n".encode()
 # A word in surrogate pairs that is longer than a node's length can be, and its parts of 10,922
 # characters at most. 25 unknown characters are a group at the end of each.
 FIRST, PAIR, GROUP, PART = b"\xed\xa1\xa7\xed\xb8\xbd", b"\xed\xa1\x82\xed\xbe\xb7", 25, 10_922
 LONG_WORD = FIRST + PAIR * 11_999
-LONG_WORD_CUT = (PAIR + b" ") * (PART - GROUP) + PAIR * GROUP + b" "
-LONG_WORD_CUT += (PAIR + b" ") * (12_000 - PART - GROUP) + PAIR * GROUP + b" "
-LONG_WORD_CUT = LONG_WORD_CUT.replace(PAIR, FIRST, 1)
+LONG_WORD_PARTS = (PAIR + b" ") * (PART - GROUP) + PAIR * GROUP + b" "
+LONG_WORD_PARTS += (PAIR + b" ") * (12_000 - PART - GROUP) + PAIR * GROUP + b" "
+LONG_WORD_PARTS = LONG_WORD_PARTS.replace(PAIR, FIRST, 1)
 ONE_ODD = ("mecab: 1 bytes in 1 lines are not UTF-8",)
 LAST = FIELDS - 1
 LAST_FIELDS = ["-F", rf"%m %f[62] %f[63] %f[64] %f[{LAST}]|%f[{FIELDS}]|\n", "-U", r"%m\n"]
@@ -77,8 +77,8 @@ CASES = [
         errors=("mecab: line 2: a write failed: No space left",),
         status=1,
     ),
-    Case("a line of 12,000 bytes is one sentence", ["-Owakati"], input=LONG, output=LONG_CUT),
-    Case("so it is with a small -b", ["-Owakati", "-b", "10"], input=LONG, output=LONG_CUT),
+    Case("a line of 12,000 bytes is one sentence", ["-Owakati"], input=LONG, output=LONG_WORDS),
+    Case("so it is with a small -b", ["-Owakati", "-b", "10"], input=LONG, output=LONG_WORDS),
     Case(
         "U+0000 ends no line",
         ["-F%m|", "-E\\n"],
@@ -122,20 +122,20 @@ CASES = [
         ["-Owakati", "HERE/a", "HERE/b"],
         {"a": NOT_UTF8, "b": NOT_UTF8},
         output=("もも ".encode() + b"\xff \n" + "もも \n".encode() + b"\xff\xff \n") * 2,
-        errors=("mecab: 6 bytes in 4 lines are not UTF-8, and were cut as U+FFFD\n",),
+        errors=("mecab: 6 bytes in 4 lines are not UTF-8, and were segmented as U+FFFD\n",),
     ),
     Case(
         "66,000 blanks before a byte that is not UTF-8",
         ["-Owakati"],
         input=BLANKS + b"a\xff\n" + NEXT,
-        output=b"a \xff \n" + NEXT_CUT,
+        output=b"a \xff \n" + NEXT_WORDS,
         errors=ONE_ODD,
     ),
     Case(
         "66,000 blanks before a word that is printed from its node",
         ["-Owakati", "-x", "u"],
         input=BLANKS + NEXT + NEXT,
-        output=NEXT_CUT + NEXT_CUT,
+        output=NEXT_WORDS + NEXT_WORDS,
     ),
     Case(
         "66,000 blanks, and where a node starts",
@@ -150,13 +150,16 @@ CASES = [
         output=ALL_MORPHS + "もも も も \n".encode(),
     ),
     Case(
-        "1.1 MB of blanks", ["-Owakati"], input=MORE_BLANKS + b"\n" + NEXT, output=b"\n" + NEXT_CUT
+        "1.1 MB of blanks",
+        ["-Owakati"],
+        input=MORE_BLANKS + b"\n" + NEXT,
+        output=b"\n" + NEXT_WORDS,
     ),
     Case(
         "1.1 MB of blanks before a word",
         ["-Owakati"],
         input=MORE_BLANKS + NEXT + NEXT,
-        output=NEXT_CUT + NEXT_CUT,
+        output=NEXT_WORDS + NEXT_WORDS,
     ),
     Case(
         "the cost after 1.1 MB of blanks",
@@ -168,7 +171,7 @@ CASES = [
         "a word of 72,000 bytes",
         ["-Owakati"],
         input=LONG_WORD + b"\n" + NEXT,
-        output=LONG_WORD_CUT + b"\n" + NEXT_CUT,
+        output=LONG_WORD_PARTS + b"\n" + NEXT_WORDS,
     ),
     Case(
         "each field of a long feature",
@@ -203,7 +206,7 @@ CASES = [
         ["-rHERE/rc", "-Owakati"],
         {"rc": "all-morphs = 1x\n"},
         NEXT,
-        NEXT_CUT,
+        NEXT_WORDS,
     ),
     Case(
         "a type that ends in CR",

@@ -41,7 +41,7 @@ CASES = [
         "a folder of sources without one",
         ["-d", "HERE/juman"],
         {"juman/matrix.def": ""},
-        error="`kumquatsieve-import juman` makes an image",
+        error="compile its sources with `kumquatsieve-import juman`",
     ),
     Case(
         "a compiled folder without one",
@@ -53,7 +53,7 @@ CASES = [
     Case(
         "an image without its last byte", ["-d", "HERE/short.img"], error="short.img: L1 Truncated"
     ),
-    Case("a missing image", ["-d", "HERE/d.img"], error="d.img: can't be opened"),
+    Case("a missing image", ["-d", "HERE/d.img"], error="d.img: cannot be opened"),
     Case("a missing file of -r", ["-r", "HERE/rc"], {}, A, error="rc: No such file or directory"),
     Case("a missing file of MECABRC", [], {}, {**A, **B}, error="rc: No such file or directory"),
     Case(
@@ -77,7 +77,7 @@ CASES = [
     Case(
         "a user dictionary of MeCab's",
         ["-d", "HERE/a.img", "-u", "USER"],
-        error="user.dic is a dictionary of MeCab's: `dictc user --dic IMG ",
+        error="user.dic is a MeCab dictionary, not an image: compile ",
     ),
     Case(
         "a dicrc that is a link to itself",
@@ -116,7 +116,7 @@ CASES = [
         "a missing user dictionary of a file",
         ["-r", "HERE/rc"],
         {"rc": "dicdir = HERE/b.img\nuserdic = HERE/d.img\n"},
-        error="d.img: can't be opened",
+        error="d.img: cannot be opened",
     ),
     Case(
         "settings that are for the image",
@@ -177,13 +177,13 @@ CASES = [
         "a blank after a user dictionary",
         ["-r", "HERE/rc"],
         {"rc": "dicdir = HERE/b.img\nuserdic = HERE/user.img \n"},
-        error="user.img : can't be opened",
+        error="user.img : cannot be opened",
     ),
     Case(
         "CR after a dictionary",
         ["-r", "HERE/rc"],
         {"rc": "dicdir = HERE/b.img\r\n"},
-        error="b.img\r: can't be opened",
+        error="b.img\r: cannot be opened",
     ),
     Case(
         "partial parsing in a file",

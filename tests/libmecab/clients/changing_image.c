@@ -1,7 +1,7 @@
 /* Tests an image that is replaced by another one while it is opened: changing_image IMG OTHER. The
    sizes and the settings of IMG, which were read before, don't belong to OTHER. An image that is
-   changed again and again is rejected after some tries. Linked with -Wl,--wrap=kumquatsieve_open.
- */
+   changed again and again is rejected after some tries. Linked with --wrap of
+   kumquatsieve_dictionary_open. */
 #include "helpers.h"
 #include <fcntl.h>
 #include <kumquatsieve.h>
@@ -12,10 +12,12 @@ enum { ALWAYS = 1000 };
 static const char *path, *other;
 static int changes, opens;
 
-uint32_t __real_kumquatsieve_open(kumquatsieve_cutter *cutter, const char *name, unsigned how,
-                                  uint64_t *number);
-uint32_t __wrap_kumquatsieve_open(kumquatsieve_cutter *cutter, const char *name, unsigned how,
-                                  uint64_t *number);
+uint32_t __real_kumquatsieve_dictionary_open(kumquatsieve_dictionary **dictionary, const char *name,
+                                             const char *const *users, size_t count, uint32_t flags,
+                                             kumquatsieve_error *error);
+uint32_t __wrap_kumquatsieve_dictionary_open(kumquatsieve_dictionary **dictionary, const char *name,
+                                             const char *const *users, size_t count, uint32_t flags,
+                                             kumquatsieve_error *error);
 
 /* Sets a modification time that the image never had. */
 static void touch(void) {
@@ -26,8 +28,9 @@ static void touch(void) {
 
 /* Changes the file before each open, as long as there are changes left. The first one is a rename,
    and the others set the modification time. */
-uint32_t __wrap_kumquatsieve_open(kumquatsieve_cutter *cutter, const char *name, unsigned how,
-                                  uint64_t *number) {
+uint32_t __wrap_kumquatsieve_dictionary_open(kumquatsieve_dictionary **dictionary, const char *name,
+                                             const char *const *users, size_t count, uint32_t flags,
+                                             kumquatsieve_error *error) {
     opens++;
     if (changes > 0 && other)
         CHECK(rename(other, path) == 0);
@@ -35,7 +38,7 @@ uint32_t __wrap_kumquatsieve_open(kumquatsieve_cutter *cutter, const char *name,
         touch();
     changes -= changes > 0;
     other = NULL;
-    return __real_kumquatsieve_open(cutter, name, how, number);
+    return __real_kumquatsieve_dictionary_open(dictionary, name, users, count, flags, error);
 }
 
 int main(int given, char **words) {
@@ -53,7 +56,7 @@ int main(int given, char **words) {
     changes = ALWAYS;
     opens = 0;
     CHECK(!mecab_new2(words_of(path, "")) && opens > 1 && opens < ALWAYS);
-    CHECK(strstr(mecab_strerror(NULL), "was changed while it was opened"));
+    CHECK(strstr(mecab_strerror(NULL), "changed while it was being opened"));
     puts("changing: an image that is changed while it is opened is opened anew, with its settings");
     return 0;
 }

@@ -176,7 +176,8 @@ void models() {
     CHECK(tagger->parse(lattice) && is(lattice->toString(), WAKATI) &&
           MeCab::Tagger::parse(*model, lattice));
     CHECK(model->transition_cost(0, 0) == 0 && is_left_out(MeCab::getLastError()));
-    CHECK(!model->lookup(LINE, LINE + std::strlen(LINE), lattice) && is_left_out(lattice->what()));
+    const MeCab::Node *found = model->lookup(LINE, LINE + std::strlen(LINE), lattice);
+    CHECK(found && found->surface == LINE && found->length == 9 && !found->bnext);
     CHECK(model->swap(other) && !model->swap(nullptr) && !model->swap(model) &&
           is(tagger->parse(LINE), PRINTED));
     delete lattice;

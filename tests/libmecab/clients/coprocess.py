@@ -1,6 +1,6 @@
-"""Writes lines to the program mecab, each after the answer to the one before: coprocess.py
+"""Writes lines to the program mecab, each after the output for the one before: coprocess.py
 
-Then it closes the pipe and prints what came. It is an error if an answer takes ten seconds.
+Then it closes the pipe and prints what came. It is an error if an output takes ten seconds.
 """
 import os
 import select

@@ -27,7 +27,7 @@ static void tell_node(const mecab_node_t *node) {
            node->beta, node->prob, node->cost);
 }
 
-static void tell_dictionaries(const mecab_dictionary_info_t *info) {
+static void print_dictionaries(const mecab_dictionary_info_t *info) {
     for (; info; info = info->next) {
         printf("charset: %s\nsize: %u\ntype: %d\n", info->charset, info->size, info->type);
         printf("lsize: %u\nrsize: %u\nversion: %u\n", info->lsize, info->rsize, info->version);
@@ -41,7 +41,7 @@ static int with_tagger(mecab_t *tagger) {
     const mecab_node_t *node = mecab_sparse_tonode(tagger, SENTENCE);
     if (!node) return refused(mecab_strerror(tagger));
     for (; node; node = node->next) tell_node(node);
-    tell_dictionaries(mecab_dictionary_info(tagger));
+    print_dictionaries(mecab_dictionary_info(tagger));
     return 0;
 }
 

@@ -29,7 +29,7 @@ void tell_node(const MeCab::Node *node) {
               << node->prob << ' ' << node->cost << '\n';
 }
 
-void tell_dictionaries(const MeCab::DictionaryInfo *info) {
+void print_dictionaries(const MeCab::DictionaryInfo *info) {
     for (; info != nullptr; info = info->next) {
         std::cout << info->charset << ' ' << info->size << ' ' << info->type << ' ' << info->version
                   << '\n';
@@ -44,7 +44,7 @@ int with_tagger(MeCab::Tagger *tagger) {
     const MeCab::Node *node = tagger->parseToNode(SENTENCE);
     if (node == nullptr) return refused(tagger->what());
     for (; node != nullptr; node = node->next) tell_node(node);
-    tell_dictionaries(tagger->dictionary_info());
+    print_dictionaries(tagger->dictionary_info());
     return 0;
 }
 

@@ -36,7 +36,7 @@ def address(port: int, command: str, **arguments: Union[str, int]) -> str:
 
 
 def answer(url: str, body: Optional[bytes] = None) -> str:
-    """Returns the answer to a request, without its times."""
+    """Returns the response to a request, without its times."""
     request = urllib.request.Request(url, body, {"Content-Type": "application/json"})
     with urllib.request.urlopen(request, timeout=SECONDS) as response:
         items = json.load(response)
@@ -46,7 +46,7 @@ def answer(url: str, body: Optional[bytes] = None) -> str:
 
 
 def wait_for(port: int) -> None:
-    """Waits until the server answers."""
+    """Waits until the server responds."""
     for _ in range(SECONDS * 10):
         try:
             answer(address(port, "status"))
@@ -93,7 +93,7 @@ def request(port: int, number: int, texts: list[str]) -> str:
 
 
 def answer_or_error(url: str) -> str:
-    """Returns the answer to a request, or why there is none."""
+    """Returns the response to a request, or why there is none."""
     try:
         return answer(url)
     except urllib.error.HTTPError as error:
@@ -103,7 +103,7 @@ def answer_or_error(url: str) -> str:
 
 
 def all_answers(port: int, texts: list[str]) -> list[str]:
-    """Sends all requests and returns their answers."""
+    """Sends all requests and returns the responses."""
     answers = [""] * REQUESTS
 
     def send(client: int) -> None:

@@ -9,7 +9,7 @@ static int is_told(const char *answer, const char *said) {
     return answer != NULL;
 }
 
-static int cut(mecab_t *tagger, mecab_lattice_t *lattice) {
+static int parse(mecab_t *tagger, mecab_lattice_t *lattice) {
     mecab_lattice_add_request_type(lattice, MECAB_ALLOCATE_SENTENCE);
     mecab_lattice_set_sentence(lattice, SENTENCE);
     if (!mecab_parse_lattice(tagger, lattice))
@@ -21,7 +21,7 @@ static int cut(mecab_t *tagger, mecab_lattice_t *lattice) {
     return is_told(mecab_lattice_tostr(lattice), mecab_lattice_strerror(lattice));
 }
 
-static int cut_own(mecab_t *tagger) {
+static int parse_own(mecab_t *tagger) {
     const mecab_node_t *node = mecab_sparse_tonode(tagger, LINE);
     if (!node || !mecab_format_node(tagger, node->next))
         return is_told(NULL, mecab_strerror(tagger));
@@ -33,8 +33,8 @@ int main(int given, char **words) {
     mecab_model_t *model = mecab_model_new2(words_of(words[1], words[2]));
     mecab_t *tagger = model ? mecab_model_new_tagger(model) : NULL;
     mecab_lattice_t *lattice = model ? mecab_model_new_lattice(model) : NULL;
-    int done = tagger && lattice ? cut(tagger, lattice) : is_told(NULL, mecab_strerror(NULL));
-    if (tagger) done = cut_own(tagger) && done;
+    int done = tagger && lattice ? parse(tagger, lattice) : is_told(NULL, mecab_strerror(NULL));
+    if (tagger) done = parse_own(tagger) && done;
     mecab_lattice_destroy(lattice);
     mecab_destroy(tagger);
     mecab_model_destroy(model);

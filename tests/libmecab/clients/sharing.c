@@ -20,11 +20,11 @@ static void images(void) {
     CHECK(strcmp(mecab_sparse_tostr(second, LINE), WAKATI) == 0);
     mecab_destroy(second);
     CHECK(!mecab_new2("-d /var/lib/mecab/dic/ipadic-utf8/sys.dic") &&
-          strstr(mecab_strerror(NULL), "a dictionary of MeCab's"));
+          strstr(mecab_strerror(NULL), "is a MeCab dictionary"));
     CHECK(!mecab_new2(words("-u /var/lib/mecab/dic/ipadic-utf8/sys.dic")) &&
           strstr(mecab_strerror(NULL), "dictc user"));
     CHECK(!mecab_new2("-d /dev") && !mecab_new2("-d /dev/null") &&
-          strstr(mecab_strerror(NULL), "/dev/null: is no file"));
+          strstr(mecab_strerror(NULL), "/dev/null: not a regular file"));
 }
 
 /* The images that were released last stay open for a caller that makes one tagger after another.
@@ -41,7 +41,7 @@ static void images_that_stay(void) {
     mecab_destroy(second);
 }
 
-static void *cut_often(void *model) {
+static void *parse_often(void *model) {
     mecab_t *tagger = mecab_model_new_tagger(model);
     for (int i = 0; i < 200; i++)
         CHECK(tagger && strcmp(mecab_sparse_tostr(tagger, LINE), PRINTED) == 0);
@@ -54,7 +54,7 @@ static void threads(void) {
     enum { THREADS = 4 };
     pthread_t all[THREADS];
     mecab_model_t *model = mecab_model_new2(words(""));
-    for (int i = 0; i < THREADS; i++) CHECK(pthread_create(&all[i], NULL, cut_often, model) == 0);
+    for (int i = 0; i < THREADS; i++) CHECK(pthread_create(&all[i], NULL, parse_often, model) == 0);
     for (int i = 0; i < 20; i++) CHECK(mecab_model_swap(model, mecab_model_new2(words(""))));
     for (int i = 0; i < THREADS; i++) CHECK(pthread_join(all[i], NULL) == 0);
     mecab_model_destroy(model);
@@ -62,7 +62,7 @@ static void threads(void) {
 
 /* Several threads parse with one tagger, each with a lattice of its own, as mecab.h allows, also
    while the dictionaries of the model are swapped. */
-static void *cut_by_one(void *tagger) {
+static void *parse_by_one(void *tagger) {
     mecab_lattice_t *lattice = mecab_lattice_new();
     for (int i = 0; i < 500; i++) {
         mecab_lattice_set_sentence(lattice, LINE);
@@ -79,7 +79,8 @@ static void threads_of_one_tagger(void) {
     pthread_t all[THREADS];
     mecab_model_t *model = mecab_model_new2(words(""));
     mecab_t *tagger = mecab_model_new_tagger(model);
-    for (int i = 0; i < THREADS; i++) CHECK(pthread_create(&all[i], NULL, cut_by_one, tagger) == 0);
+    for (int i = 0; i < THREADS; i++)
+        CHECK(pthread_create(&all[i], NULL, parse_by_one, tagger) == 0);
     for (int i = 0; i < 20; i++) CHECK(mecab_model_swap(model, mecab_model_new2(words(""))));
     for (int i = 0; i < THREADS; i++) CHECK(pthread_join(all[i], NULL) == 0);
     mecab_destroy(tagger);

@@ -31,7 +31,7 @@ Content-Type: text/plain; charset="UTF-8"
 Content-Transfer-Encoding: 8bit
 
 """
-# Tenths of a second until the server must answer.
+# Tenths of a second until the server must respond.
 TRIES = 300
 Words = Sequence[Union[str, Path]]
 
@@ -80,7 +80,7 @@ def server(folder: Path) -> Iterator[Callable[[Words], bytes]]:
 
 
 def wait_for(sockets: Path) -> None:
-    """Waits until the server answers."""
+    """Waits until the server responds."""
     for _ in range(TRIES):
         if subprocess.run([SERVER / "pg_isready", "-q", "-h", sockets]).returncode == 0:
             return

@@ -70,7 +70,7 @@ class Case(NamedTuple):
     # Whether standard input is a directory.
     is_directory: bool = False
     # Options of pjseg alone, and of jseg alone.
-    cut: Tuple[str, ...] = ()
+    pjseg: Tuple[str, ...] = ()
     jseg: Tuple[str, ...] = ()
 
     def set_up(self) -> None:
@@ -107,9 +107,13 @@ FORMATS = [
 TESTED = ("--test-digest",)
 UNTESTED = ("--skip-digest",)
 IMAGES = [
-    Case("another digest", image="DAMAGED", cut=TESTED, status=1, error="L8 Digest"),
+    Case("another digest", image="DAMAGED", pjseg=TESTED, status=1, error="L8 Digest"),
     Case(
-        "another digest, a user's", ("-u", "DAMAGED USER"), cut=TESTED, status=1, error="L8 Digest"
+        "another digest, a user's",
+        ("-u", "DAMAGED USER"),
+        pjseg=TESTED,
+        status=1,
+        error="L8 Digest",
     ),
     Case("other digests", ("-u", "DAMAGED USER"), image="DAMAGED", jseg=UNTESTED),
     Case(
@@ -117,26 +121,26 @@ IMAGES = [
         ("--skip-digest", "-u", "DAMAGED USER"),
         image="DAMAGED",
     ),
-    Case("the digests", ("-u", "USER"), cut=TESTED),
+    Case("the digests", ("-u", "USER"), pjseg=TESTED),
     Case("the digests, without their test", ("-u", "USER", "--skip-digest")),
-    Case("images that are copied", ("-u", "USER"), cut=("--copy",)),
+    Case("images that are copied", ("-u", "USER"), pjseg=("--copy",)),
     Case(
         "another digest that is copied",
         image="DAMAGED",
-        cut=("--copy", "--test-digest"),
+        pjseg=("--copy", "--test-digest"),
         status=1,
         error="L8 Digest",
     ),
     Case(
         "another digest that is copied, without the test",
         image="DAMAGED",
-        cut=("--copy",),
+        pjseg=("--copy",),
         jseg=UNTESTED,
     ),
     Case(
         "another digest after what is no user dictionary",
         ("-u", "SYSTEM", "-u", "DAMAGED USER"),
-        cut=TESTED,
+        pjseg=TESTED,
         status=1,
         error="L8 Digest",
     ),

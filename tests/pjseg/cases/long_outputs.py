@@ -85,13 +85,13 @@ def printed(words: Sequence[object], text: Path, is_limited: bool = False) -> Pr
     return Printed(length, checksum, status, errors)
 
 
-def failures(cut: Path, jseg: Path, image: Path, text: Path) -> Iterator[str]:
+def failures(pjseg: Path, jseg: Path, image: Path, text: Path) -> Iterator[str]:
     """Yields what differs from jseg, with one thread and with several, under a limit on memory."""
     text.write_bytes(TEXT)
     expected = printed([jseg, "-d", image], text)
     if expected.status != 0 or expected.length < LIMIT:
         yield f"jseg prints too little: {expected}"
     for jobs in (1, 4):
-        found = printed([cut, "-d", image, "-j", jobs], text, is_limited=True)
+        found = printed([pjseg, "-d", image, "-j", jobs], text, is_limited=True)
         if found != expected:
             yield f"long outputs, {jobs} threads: {found}, and jseg: {expected}"

@@ -11,7 +11,7 @@ from contextlib import suppress
 from pathlib import Path
 from typing import IO, Iterator, NamedTuple, Sequence, Union
 
-NAME = "kumquatsieve-cut"
+NAME = "pjseg"
 MARK = b"\xef\xbb\xbf"
 ERASED = "\x1b[K"
 LINE = "すもも\n".encode()
@@ -19,7 +19,7 @@ MANY = LINE * 250_000  # several pieces
 MARKED = (
     f"{NAME}: warning: the text begins with a byte order mark (U+FEFF); it is segmented as text\n"
 )
-EXPLAINED = f"{NAME}: 'jseg --explain G3' prints what that means and what to do\n"
+EXPLAINED = f"{NAME}: 'jseg --explain G3' explains this error\n"
 ERROR = f"{NAME}: line 2: G3 NotUtf8\n{EXPLAINED}"
 SECONDS = 300
 
