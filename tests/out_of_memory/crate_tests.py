@@ -28,46 +28,62 @@ MODULES = [
         "source_tests",
         "of_cells",
         [
-            "refused_cells_are_asked_again",
-            "refused_growth_keeps_the_cells",
+            "failed_allocation_is_retried",
+            "failed_growth_keeps_the_cells",
             "blocks_are_given_back",
         ],
         empty="no_cells",
     ),
-    Module("source_tests", "of_double_array::growing", ["refused_growth_keeps_the_cells"]),
-    Module("source_tests", "of_double_array::grown_cells", ["refused_growth_keeps_the_cells"]),
+    Module("source_tests", "of_double_array::growing", ["failed_growth_keeps_the_cells"]),
     Module(
         "source_tests",
-        "of_lex_source::rejected",
+        "of_double_array::grown_cells",
+        ["failed_growth_keeps_the_cells"],
+    ),
+    Module(
+        "source_tests",
+        "of_lex_source::out_of_memory",
         [
-            "refused_lexicon_adds_no_records",
-            "refused_lexicon_at_fault",
-            "refused_long_surface",
-            "refused_lexicon_adds_no_entries",
-            "refused_field",
-            "refused_field_keeps_what_stands_before",
+            "failed_allocation_adds_no_records",
+            "invalid_lexicon_out_of_memory",
+            "long_surface_out_of_memory",
+            "failed_allocation_adds_no_entries",
+            "field_out_of_memory",
+            "failed_allocation_keeps_the_text_before",
         ],
     ),
     Module(
         "source_tests",
-        "of_matrix_def::rejected",
-        ["refused_matrix", "refused_matrix_in_halves", "refused_matrix_at_fault"],
+        "of_matrix_def::out_of_memory",
+        [
+            "matrix_out_of_memory",
+            "matrix_in_halves_out_of_memory",
+            "invalid_matrix_out_of_memory",
+        ],
     ),
     Module(
         "source_tests",
-        "of_char_def::rejected",
-        ["refused_tables", "refused_chars", "refused_chars_at_fault"],
+        "of_char_def::out_of_memory",
+        ["tables_out_of_memory", "chars_out_of_memory", "invalid_chars_out_of_memory"],
     ),
     Module(
         "dictionary_tests",
         "of_dict_compile::out_of_memory",
-        ["starved_system_dictionary", "starved_user_dictionary"],
+        ["system_dictionary_out_of_memory", "user_dictionary_out_of_memory"],
     ),
-    Module("dictionary_tests", "of_dict_image::out_of_memory", ["starved_user_images"]),
-    Module("search_tests", "of_word_lookup::out_of_memory", ["starved_words"]),
-    Module("search_tests", "of_lattice::out_of_memory", ["starved_search"]),
-    Module("text_tests", "of_out_format::out_of_memory", ["starved_formats"]),
-    Module("text_tests", "of_segmenter::out_of_memory", ["starved_runs", "starved_sources"]),
+    Module(
+        "dictionary_tests",
+        "of_dict_image::out_of_memory",
+        ["user_images_out_of_memory"],
+    ),
+    Module("search_tests", "of_word_lookup::out_of_memory", ["words_out_of_memory"]),
+    Module("search_tests", "of_lattice::out_of_memory", ["search_out_of_memory"]),
+    Module("text_tests", "of_out_format::out_of_memory", ["formats_out_of_memory"]),
+    Module(
+        "text_tests",
+        "of_segmenter::out_of_memory",
+        ["runs_out_of_memory", "sources_out_of_memory"],
+    ),
 ]
 
 
@@ -93,4 +109,7 @@ def check_crates() -> None:
             for name in module.tests:
                 count = check_test(program, prefix + name, unfreed)
                 print(f"{module.crate} {prefix}{name}: {count} allocations failed in turn")
-    print(f"{sum(len(module.tests) for module in MODULES)} cases: tests of the crates", flush=True)
+    print(
+        f"{sum(len(module.tests) for module in MODULES)} cases: tests of the crates",
+        flush=True,
+    )

@@ -157,14 +157,14 @@ fn one_more_at_a_time(rt: HostRuntime) -> Result<(), Fail> {
 }
 
 #[test]
-fn refused_cells_are_asked_again(rt: HostRuntime) -> Result<(), Fail> {
+fn failed_allocation_is_retried(rt: HostRuntime) -> Result<(), Fail> {
     let cells = new_cells(&rt, 4)?;
     assert!(rt; holds(&cells, 0, 4));
     Ok(())
 }
 
 #[test]
-fn refused_growth_keeps_the_cells(rt: HostRuntime) -> Result<(), Fail> {
+fn failed_growth_keeps_the_cells(rt: HostRuntime) -> Result<(), Fail> {
     let mut cells = new_cells(&rt, 4)?;
     for i in 0..4 {
         put(&mut cells, i, i as i32 + 1, 7);

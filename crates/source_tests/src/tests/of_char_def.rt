@@ -1,7 +1,7 @@
 //! `char.def` and `unk.def`.
 
 mod chars;
+mod out_of_memory;
 mod ranges;
-mod rejected;
 pub mod samples;
 mod unk;

@@ -1,6 +1,6 @@
 //! Lexicons, fields and numbers.
+mod out_of_memory;
 pub mod records;
-mod rejected;
 mod sorted;
 
 use super::faults::{File, expect_faults};

@@ -1,6 +1,6 @@
 //! Connection costs.
+pub mod out_of_memory;
 mod pieces;
-pub mod rejected;
 
 use super::faults::{Read, read_again};
 use matrix_def::{Matrix, read_matrix};

@@ -56,7 +56,7 @@ fn expect_entries(rt: &impl Abort, dict: &Dict) {
 }
 
 #[test]
-fn starved_system_dictionary(rt: HostRuntime) -> Result<(), Fail> {
+fn system_dictionary_out_of_memory(rt: HostRuntime) -> Result<(), Fail> {
     expect_entries(&rt, &dict_again(&rt, None)?);
     Ok(())
 }
@@ -75,7 +75,7 @@ fn has_user(rt: &HostRuntime, system: &Dict) -> Result<bool, Fail> {
 }
 
 #[test]
-fn starved_user_dictionary(rt: HostRuntime) -> Result<(), Fail> {
+fn user_dictionary_out_of_memory(rt: HostRuntime) -> Result<(), Fail> {
     let system = dict_again(&rt, None)?;
     assert!(rt; user_counts(&rt, &system)? == (1, 0));
     assert!(rt; has_user(&rt, &system)?);

@@ -1,5 +1,5 @@
 //! Several lexicons, and all sources together.
-use super::watched::{Told, compiled_with};
+use super::watched::{RecordedSteps, compiled_with};
 use crate::tests::samples::{compiled_of, with_lexicons};
 use dict_compile::CompileStep;
 use lex_source::SourceLexicon;
@@ -62,7 +62,7 @@ static REFUSED: [(&str, &str, &str, u32, u64, SourceKind); 4] = [
 ];
 
 #[test]
-fn refused_lexicons(rt: HostRuntime) {
+fn invalid_lexicons(rt: HostRuntime) {
     for (what, first, second, file, line, kind) in &REFUSED {
         let fault = counts(rt.alloc(), first, second).err();
         assert!(rt; fault == Some(kind.at(*file, *line)), "{what}");
@@ -106,11 +106,11 @@ fn are_as(alloc: Global, unknown: &str, lexicon: &str, expected: Option<At>) -> 
         unk: unknown.as_bytes(),
         lexicons: &[lexicon.as_bytes()],
     };
-    let mut told = Told::nothing(alloc);
-    match compiled_with(alloc, &sources, &mut told) {
+    let mut recorded = RecordedSteps::nothing(alloc);
+    match compiled_with(alloc, &sources, &mut recorded) {
         Ok(compiled) => {
             let counted = (compiled.entries, compiled.skipped) == (1, 1);
-            expected.is_none() && counted && told.steps.starts_with(&FIRST_STEPS)
+            expected.is_none() && counted && recorded.steps.starts_with(&FIRST_STEPS)
         }
         Err(fault) => fault_at(expected) == Some(fault),
     }

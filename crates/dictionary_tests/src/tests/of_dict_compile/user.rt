@@ -110,7 +110,7 @@ fn expect_refused(rt: &(impl Abort + Alloc<A = Global>), system: &Dict) {
 }
 
 #[test]
-fn refused_lexicons(rt: HostRuntime) -> Result<(), Fail> {
+fn invalid_lexicons(rt: HostRuntime) -> Result<(), Fail> {
     let system = system_2_3(rt.alloc())?;
     expect_refused(&rt, &system);
     let sizes = user_dict(rt.alloc(), &system, ACCEPTED)?.matrix_sizes();

@@ -14,21 +14,21 @@ use std::test::Fail;
 
 /// The steps reported so far.
 #[derive(Drop)]
-pub struct Told {
+pub struct RecordedSteps {
     pub steps: Vec<CompileStep>,
     rejected: bool,
 }
 
-impl Told {
-    pub fn nothing(alloc: Global) -> Told {
-        Told {
+impl RecordedSteps {
+    pub fn nothing(alloc: Global) -> RecordedSteps {
+        RecordedSteps {
             steps: Vec::new(alloc),
             rejected: false,
         }
     }
 }
 
-impl Watch for Told {
+impl Watch for RecordedSteps {
     ghost reported = { λ t steps. t.rejected ≡ false → t.steps.items ≡ steps };
 
     fn done(&mut self, step: CompileStep) {
@@ -56,32 +56,32 @@ static READ: [CompileStep; 3] = [
 static FIRST_READ: [CompileStep; 1] = [CompileStep::LexiconRead { entries: 1 }];
 
 /// Returns whether the reported steps are `before` and then `then`.
-fn are_steps(told: &Told, before: &[CompileStep], then: &[CompileStep]) -> bool {
-    !told.rejected
-        && told.steps.len() == before.len().saturating_add(then.len())
-        && told.steps.starts_with(before)
-        && told.steps.ends_with(then)
+fn are_steps(recorded: &RecordedSteps, before: &[CompileStep], then: &[CompileStep]) -> bool {
+    !recorded.rejected
+        && recorded.steps.len() == before.len().saturating_add(then.len())
+        && recorded.steps.starts_with(before)
+        && recorded.steps.ends_with(then)
 }
 
-/// Compiles `sources`, and records the steps in `told`.
+/// Compiles `sources`, and records the steps in `recorded`.
 pub fn compiled_with(
     alloc: Global,
     sources: &Sources<'_>,
-    told: &mut Told,
+    recorded: &mut RecordedSteps,
 ) -> Result<Compiled, SourceFault> {
-    compile_watched(alloc, sources, told)
+    compile_watched(alloc, sources, recorded)
 }
 
 #[test]
 fn steps_of_a_system(rt: HostRuntime) -> Result<(), Fail> {
-    let mut told = Told::nothing(rt.alloc());
-    compiled_with(rt.alloc(), &with_lexicons(LEXICONS), &mut told)?;
-    assert!(rt; are_steps(&told, &BEFORE, &READ));
+    let mut recorded = RecordedSteps::nothing(rt.alloc());
+    compiled_with(rt.alloc(), &with_lexicons(LEXICONS), &mut recorded)?;
+    assert!(rt; are_steps(&recorded, &BEFORE, &READ));
     Ok(())
 }
 
 /// Returns the number of entries and of skipped lines if the costs have already been read.
-fn counts_with_costs(alloc: Global, told: &mut Told) -> Result<(u64, u128), Fail> {
+fn counts_with_costs(alloc: Global, recorded: &mut RecordedSteps) -> Result<(u64, u128), Fail> {
     let Sources {
         matrix,
         chars,
@@ -94,31 +94,31 @@ fn counts_with_costs(alloc: Global, told: &mut Told) -> Result<(u64, u128), Fail
         unk,
         lexicons,
     };
-    let compiled = compile_others_watched(alloc, costs, &others, told)?;
+    let compiled = compile_others_watched(alloc, costs, &others, recorded)?;
     Ok((compiled.entries, compiled.skipped))
 }
 
 #[test]
 fn steps_with_costs_read_before(rt: HostRuntime) -> Result<(), Fail> {
-    let mut told = Told::nothing(rt.alloc());
-    assert!(rt; counts_with_costs(rt.alloc(), &mut told)? == (3, 1));
-    assert!(rt; are_steps(&told, &BEFORE, &READ));
+    let mut recorded = RecordedSteps::nothing(rt.alloc());
+    assert!(rt; counts_with_costs(rt.alloc(), &mut recorded)? == (3, 1));
+    assert!(rt; are_steps(&recorded, &BEFORE, &READ));
     Ok(())
 }
 
 #[test]
 fn steps_of_a_user(rt: HostRuntime) -> Result<(), Fail> {
     let system = sample_dict(rt.alloc())?;
-    let mut told = Told::nothing(rt.alloc());
-    compile_user_watched(rt.alloc(), &system, LEXICONS, &mut told)?;
-    assert!(rt; are_steps(&told, &[], &READ));
+    let mut recorded = RecordedSteps::nothing(rt.alloc());
+    compile_user_watched(rt.alloc(), &system, LEXICONS, &mut recorded)?;
+    assert!(rt; are_steps(&recorded, &[], &READ));
     Ok(())
 }
 
 #[test]
 fn steps_before_a_fault(rt: HostRuntime) {
-    let mut told = Told::nothing(rt.alloc());
+    let mut recorded = RecordedSteps::nothing(rt.alloc());
     let sources = with_lexicons(&[b"a,1,1,5,X\n", b"b,1,x,5,X\n"]);
-    assert!(rt; compiled_with(rt.alloc(), &sources, &mut told).is_err());
-    assert!(rt; are_steps(&told, &BEFORE, &FIRST_READ));
+    assert!(rt; compiled_with(rt.alloc(), &sources, &mut recorded).is_err());
+    assert!(rt; are_steps(&recorded, &BEFORE, &FIRST_READ));
 }

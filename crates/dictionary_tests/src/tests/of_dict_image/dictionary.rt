@@ -89,7 +89,7 @@ fn fault_with(alloc: Global, length: usize, more: &[u8]) -> Result<Option<ImageF
 }
 
 #[test]
-fn refused_images(rt: HostRuntime) -> Result<(), Fail> {
+fn invalid_images(rt: HostRuntime) -> Result<(), Fail> {
     for (what, length, more, fault) in &REFUSED {
         let found = fault_with(rt.alloc(), *length, more)?;
         assert_eq!(rt; found, Some(*fault), "{what}");

@@ -112,7 +112,7 @@ static LISTED: [(&str, u8, &[u8], Option<ImageFault>); 25] = [
     ("b, a",                       2, b"\x01\0b\x01\0a",           Some(BadKey(1))),
     ("ab, a",                      2, b"\x02\0ab\x01\0a",          Some(BadKey(1))),
     ("a, a",                       2, b"\x01\0a\x01\0a",           Some(BadKey(1))),
-    ("b, a, a: the first is told", 3, b"\x01\0b\x01\0a\x01\0a",    Some(BadKey(1))),
+    ("b, a, a: the first is reported", 3, b"\x01\0b\x01\0a\x01\0a",    Some(BadKey(1))),
     ("a, b, a",                    3, b"\x01\0a\x01\0b\x01\0a",    Some(BadKey(2))),
     ("U+007F, U+0080",             2, b"\x01\0\x7f\x02\0\xc2\x80", None),
     ("an empty key",               1, b"\0\0",                     Some(BadKey(0))),

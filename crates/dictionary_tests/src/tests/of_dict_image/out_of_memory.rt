@@ -36,7 +36,7 @@ static LAYOUTS: [(&str, u32, &str, &str); 3] = [
 
 /// Each dictionary has the only entry of its image, even after an allocation failure.
 #[test]
-fn starved_user_images(rt: HostRuntime) -> Result<(), Fail> {
+fn user_images_out_of_memory(rt: HostRuntime) -> Result<(), Fail> {
     for (what, layout, key, other) in &LAYOUTS {
         let dict = dict_again(&rt, *layout)?;
         assert!(rt; is_user_with(&dict, key, 1, other), "{what}");

@@ -188,6 +188,6 @@ static REFUSED: [(&str, RefusedRow); 3] = [
 ];
 
 #[test]
-fn refused_dictionaries(rt: HostRuntime) -> Result<(), Fail> {
+fn invalid_dictionaries(rt: HostRuntime) -> Result<(), Fail> {
     expect_in_directory(&rt, "refused", make_images, &REFUSED, is_refused)
 }

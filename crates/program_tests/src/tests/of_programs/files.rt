@@ -49,7 +49,7 @@ fn files_that_fail(rt: HostRuntime) -> Result<(), Fail> {
 }
 
 #[test]
-fn refused_files(rt: HostRuntime) -> Result<(), Fail> {
+fn rejected_files(rt: HostRuntime) -> Result<(), Fail> {
     let error = io::Error::from(ErrorKind::OutOfMemory);
     assert!(rt; Fault::of_file(rt.alloc(), "a", &error) == Fault::Memory);
     assert!(rt; Fault::from(AllocError) == Fault::Memory);

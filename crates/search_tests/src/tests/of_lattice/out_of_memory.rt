@@ -70,7 +70,7 @@ fn expect_row(
 }
 
 #[test]
-fn starved_search(rt: HostRuntime) -> Result<(), Fail> {
+fn search_out_of_memory(rt: HostRuntime) -> Result<(), Fail> {
     let dicts = TwoDicts::again(&rt)?;
     let mut lattice = Lattice::new(rt.alloc());
     for row in &STARVED_SEARCHES {

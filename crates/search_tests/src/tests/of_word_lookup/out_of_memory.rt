@@ -87,7 +87,7 @@ fn expect_row(
 }
 
 #[test]
-fn starved_words(rt: HostRuntime) -> Result<(), Fail> {
+fn words_out_of_memory(rt: HostRuntime) -> Result<(), Fail> {
     let dicts = TwoDicts::again(&rt)?;
     let mut out = Vec::new(rt.alloc());
     for row in &STARVED_WORDS {

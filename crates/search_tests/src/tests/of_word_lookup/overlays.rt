@@ -100,7 +100,7 @@ fn rejected(dicts: &[Dict], system: usize, (from, to): (usize, usize)) -> Option
 }
 
 #[test]
-fn refused_overlays(rt: HostRuntime) -> Result<(), Fail> {
+fn invalid_overlays(rt: HostRuntime) -> Result<(), Fail> {
     let dicts = dicts(rt.alloc())?;
     for (what, system, users, fault) in &REFUSED_OVERLAYS {
         let rejected = rejected(&dicts, *system, *users);

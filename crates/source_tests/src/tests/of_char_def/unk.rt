@@ -56,7 +56,7 @@ fn lines_of_kanji(rt: HostRuntime) -> Result<(), Fail> {
 }
 
 #[test]
-fn refused_lines_of_unk_def(rt: HostRuntime) -> Result<(), Fail> {
+fn invalid_lines_of_unk_def(rt: HostRuntime) -> Result<(), Fail> {
     expect_faults(&rt, File::MoreUnk)
 }
 

@@ -135,7 +135,7 @@ fn insert_in_both(
 /// An allocation failure leaves the cells unchanged, and the retry produces the cells of an array
 /// without failures.
 #[test]
-fn refused_growth_keeps_the_cells(rt: HostRuntime) -> Result<(), Fail> {
+fn failed_growth_keeps_the_cells(rt: HostRuntime) -> Result<(), Fail> {
     let mut array = new_array(&rt)?;
     let mut other = new_array(&rt)?;
     insert_in_both(&rt, &mut array, &mut other)

@@ -82,7 +82,7 @@ fn insert_all(
 }
 
 #[test]
-fn refused_growth_keeps_the_cells(rt: HostRuntime) -> Result<(), Fail> {
+fn failed_growth_keeps_the_cells(rt: HostRuntime) -> Result<(), Fail> {
     let mut array = new_array(&rt)?;
     let mut before = new_array(&rt)?;
     let mut cells = of_cells::new_cells(&rt, 1)?;

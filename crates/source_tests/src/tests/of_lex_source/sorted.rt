@@ -78,7 +78,7 @@ static REFUSED: [(&str, &str, u64, SourceKind); 4] = [
 ];
 
 #[test]
-fn refused_lexicons_add_nothing(rt: HostRuntime) -> Result<(), Fail> {
+fn invalid_lexicons_add_nothing(rt: HostRuntime) -> Result<(), Fail> {
     let mut lexicon = SourceLexicon::new(rt.alloc(), SIZES);
     add(rt.alloc(), &mut lexicon, 3, b"a,0,0,1,x\n")?;
     for (what, bytes, line, kind) in &REFUSED {

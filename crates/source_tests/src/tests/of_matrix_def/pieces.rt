@@ -1,5 +1,5 @@
 //! A `matrix.def` that is read in pieces gives the result of reading it as one slice.
-use super::rejected::rows_of_matrices;
+use super::out_of_memory::rows_of_matrices;
 use super::{LISTED, table_of};
 use matrix_def::{Matrix, MatrixReader};
 use mj_model::{SourceFault, SourceKind};

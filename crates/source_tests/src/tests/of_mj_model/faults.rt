@@ -115,7 +115,7 @@ static PLACES: [(u32, u64, &str); 4] = [
 ];
 
 /// Returns whether an error is printed after its position.
-fn is_told_at(
+fn is_reported_at(
     alloc: Global,
     row: &FaultRow<SourceKind>,
     place: &(u32, u64, &str),
@@ -131,7 +131,7 @@ fn places_of_sources(rt: HostRuntime) -> Result<(), Fail> {
     for place in &PLACES {
         for row in &KINDS {
             assert!(rt;
-                is_told_at(rt.alloc(), row, place)?,
+                is_reported_at(rt.alloc(), row, place)?,
                 "{} {}",
                 place.2,
                 row.3

@@ -41,7 +41,7 @@ static REFUSED_TEXTS: [(&str, &[u8], SegmentFault, Option<SegmentFault>); 4] = [
 ];
 
 #[test]
-fn refused_texts(rt: HostRuntime) -> Result<(), Fail> {
+fn invalid_texts(rt: HostRuntime) -> Result<(), Fail> {
     let alloc = rt.alloc();
     let mut segmenter = sample_segmenter(alloc)?;
     assert!(rt; segmenter.text() == Err(SegmentFault::NothingSegmented));

@@ -94,7 +94,7 @@ fn expect_asked(
 }
 
 #[test]
-fn starved_formats(rt: HostRuntime) -> Result<(), Fail> {
+fn formats_out_of_memory(rt: HostRuntime) -> Result<(), Fail> {
     const COSTS: Asked = Asked::Texts("%m/%f[0]/%c/%pn/%pc\\s", "%pc\\n");
     const PLACES: Asked = Asked::Texts("%M|%ps|%pe|%pl|%pL|%pS;", "%L\\n");
     let dict = dict_again(&rt, sample().lexicons)?;

@@ -64,7 +64,7 @@ fn first_layout(alloc: Global) -> Result<Vec<u8>, Fail> {
 }
 
 /// Returns the error of compiling a user dictionary for the user image `image`.
-fn refused_for(alloc: Global, image: Vec<u8>) -> Result<Option<CompileUserFault>, Fail> {
+fn rejected_for(alloc: Global, image: Vec<u8>) -> Result<Option<CompileUserFault>, Fail> {
     let user = loaded(alloc, image)?;
     Ok(compile_user(alloc, &user, &[LINE.as_bytes()]).err())
 }
@@ -73,7 +73,7 @@ fn refused_for(alloc: Global, image: Vec<u8>) -> Result<Option<CompileUserFault>
 fn a_user_image_of_layout_1(rt: HostRuntime) -> Result<(), Fail> {
     let made = first_layout(rt.alloc())?;
     assert!(rt; made.as_slice() == FIRST_LAYOUT.as_slice());
-    let fault = refused_for(rt.alloc(), made)?;
+    let fault = rejected_for(rt.alloc(), made)?;
     assert_eq!(rt; fault, Some(CompileUserFault::NotSystem));
     Ok(())
 }

@@ -71,7 +71,7 @@ fn expect_run(
 }
 
 #[test]
-fn starved_runs(rt: HostRuntime) -> Result<(), Fail> {
+fn runs_out_of_memory(rt: HostRuntime) -> Result<(), Fail> {
     let format = default_again(&rt)?;
     let mut written = room_again(&rt)?;
     let dict = dict_again(&rt, sample().lexicons)?;
@@ -82,7 +82,7 @@ fn starved_runs(rt: HostRuntime) -> Result<(), Fail> {
 }
 
 #[test]
-fn starved_sources(rt: HostRuntime) -> Result<(), Fail> {
+fn sources_out_of_memory(rt: HostRuntime) -> Result<(), Fail> {
     let format = default_again(&rt)?;
     let mut written = room_again(&rt)?;
     let mut reader = Counted::new(TEXT.as_bytes());

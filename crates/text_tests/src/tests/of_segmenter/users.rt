@@ -81,7 +81,7 @@ fn expect_refusal(
 }
 
 #[test]
-fn refused_users(rt: HostRuntime) {
+fn invalid_users(rt: HostRuntime) {
     let user = USER.as_bytes();
     let bad = "も,1,1,x,Z\n".as_bytes();
     let outside = "も,2,1,5,Z\n".as_bytes();

@@ -60,7 +60,7 @@ static ACCEPTED: [(&str, &[u8], &[i16]); 3] = [
 ];
 
 #[test]
-fn refused_matrix(rt: HostRuntime) -> Result<(), Fail> {
+fn matrix_out_of_memory(rt: HostRuntime) -> Result<(), Fail> {
     for (what, bytes, costs) in &ACCEPTED {
         let matrix = matrix_of(&rt, bytes)??;
         assert_eq!(rt; matrix.costs(), *costs, "{what}");
@@ -69,7 +69,7 @@ fn refused_matrix(rt: HostRuntime) -> Result<(), Fail> {
 }
 
 #[test]
-fn refused_matrix_in_halves(rt: HostRuntime) -> Result<(), Fail> {
+fn matrix_in_halves_out_of_memory(rt: HostRuntime) -> Result<(), Fail> {
     for (what, bytes, costs) in &ACCEPTED {
         let matrix = matrix_of_halves(&rt, bytes)??;
         assert_eq!(rt; matrix.costs(), *costs, "{what}");
@@ -78,7 +78,7 @@ fn refused_matrix_in_halves(rt: HostRuntime) -> Result<(), Fail> {
 }
 
 #[test]
-fn refused_matrix_at_fault(rt: HostRuntime) -> Result<(), Fail> {
+fn invalid_matrix_out_of_memory(rt: HostRuntime) -> Result<(), Fail> {
     for (what, bytes, line, kind) in rows_of_matrices() {
         let fault = matrix_of(&rt, bytes)?.err();
         assert_eq!(rt; fault, Some(kind.at(0, *line)), "{what}");

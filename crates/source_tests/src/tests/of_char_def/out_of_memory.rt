@@ -22,7 +22,7 @@ fn count_of_unk(rt: &HostRuntime) -> Result<usize, Fail> {
 }
 
 #[test]
-fn refused_tables(rt: HostRuntime) -> Result<(), Fail> {
+fn tables_out_of_memory(rt: HostRuntime) -> Result<(), Fail> {
     assert!(rt; count_of_chars(&rt)? == 6);
     assert!(rt; count_of_unk(&rt)? == 6);
     Ok(())
@@ -49,7 +49,7 @@ fn expect_infos(rt: &impl Abort, chars: &CharTable) {
 }
 
 #[test]
-fn refused_chars(rt: HostRuntime) -> Result<(), Fail> {
+fn chars_out_of_memory(rt: HostRuntime) -> Result<(), Fail> {
     let bytes = again!(rt, Err(_), commented(rt.alloc()))?;
     expect_infos(&rt, &chars_of(&rt, &bytes)??);
     let info = info_with(&rt, b"0xFFFF KANJI\n", 0xFFFF)?;
@@ -58,6 +58,6 @@ fn refused_chars(rt: HostRuntime) -> Result<(), Fail> {
 }
 
 #[test]
-fn refused_chars_at_fault(rt: HostRuntime) -> Result<(), Fail> {
+fn invalid_chars_out_of_memory(rt: HostRuntime) -> Result<(), Fail> {
     expect_faults(&rt, File::MoreChars)
 }

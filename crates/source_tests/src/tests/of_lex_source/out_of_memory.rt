@@ -17,12 +17,12 @@ use std::test::Fail;
 use test_support::again;
 
 #[test]
-fn refused_lexicon_adds_no_records(rt: HostRuntime) -> Result<(), Fail> {
+fn failed_allocation_adds_no_records(rt: HostRuntime) -> Result<(), Fail> {
     expect_records(&rt, &ACCEPTED)
 }
 
 #[test]
-fn refused_lexicon_at_fault(rt: HostRuntime) -> Result<(), Fail> {
+fn invalid_lexicon_out_of_memory(rt: HostRuntime) -> Result<(), Fail> {
     expect_faults(&rt, File::FirstLexicon)
 }
 
@@ -34,7 +34,7 @@ fn line_of(rt: &HostRuntime, length: usize) -> Result<Vec<u8>, Fail> {
 }
 
 #[test]
-fn refused_long_surface(rt: HostRuntime) -> Result<(), Fail> {
+fn long_surface_out_of_memory(rt: HostRuntime) -> Result<(), Fail> {
     let line = line_of(&rt, 65_536)?;
     assert_eq!(rt; fault_behind(&rt, 3, &line)?, Some(SurfaceTooLong.at(3, 1)));
     Ok(())
@@ -68,7 +68,7 @@ fn are_sorted(sorted: &SortedLexicon<'_>, expected: &[(&str, &str)]) -> bool {
 }
 
 #[test]
-fn refused_lexicon_adds_no_entries(rt: HostRuntime) -> Result<(), Fail> {
+fn failed_allocation_adds_no_entries(rt: HostRuntime) -> Result<(), Fail> {
     let mut lexicon = SourceLexicon::new(rt.alloc(), MatrixSizes { right: 2, left: 2 });
     add_lines(&rt, &mut lexicon, 0)?;
     assert!(rt; lexicon.len() == 2);
@@ -101,7 +101,7 @@ fn field_again(
 }
 
 #[test]
-fn refused_field(rt: HostRuntime) -> Result<(), Fail> {
+fn field_out_of_memory(rt: HostRuntime) -> Result<(), Fail> {
     for (number, expected) in &FIELDS {
         let found = field_again(&rt, "x, \"y z\"w,*", *number)?;
         assert!(rt; is_text(&found, *expected), "{number}");
@@ -127,7 +127,7 @@ fn append_again(
 }
 
 #[test]
-fn refused_field_keeps_what_stands_before(rt: HostRuntime) -> Result<(), Fail> {
+fn failed_allocation_keeps_the_text_before(rt: HostRuntime) -> Result<(), Fail> {
     let mut out = Vec::new(rt.alloc());
     append_again(&rt, &mut out, b"", "ab,\"c\"\"d\"")?;
     append_again(
