@@ -7,11 +7,12 @@ use Rattle.mj_model.specs.Tables.{Overlay}
 use Rattle.mj_model.specs.declared.limits.TheConstants.{READS_MAX}
 use Rattle.mj_model.specs.declared.run_fault.RunFault.{RunFault}
 use Rattle.mj_model.specs.declared.sources.Sources.{Sources}
+use Rattle.dict_compile.specs.SourceOverlays.{HaveOverlay}
 use Rattle.line_stream.specs.Runs.{RunOutcome}
 use Rattle.out_format.specs.Formats.{Format}
 use Rattle.out_format.specs.PrintedLines.{LineResult}
 use Rattle.out_format.proofs.SegmentationLemmas.{segmentation}
-use Rattle.segmenter.specs.Segmentation.{WroteSegmentation, WroteSegmentationBy}
+use Rattle.segmenter.specs.Segmentation.{WroteSegmentation}
 use Rattle.segmenter.specs.SourceRuns.{EndedBeforeReading, RunOverSources}
 
 pub segmented : (o : Overlay) (format : Format) (bound : ℕ) (from to : ReaderState) (before after : WriterState) (result : Result ℕ RunFault)
@@ -33,7 +34,7 @@ segmented o format bound from to before after (Ok lines) ran =
 
 pub segmented_by : (sources : Sources) (users : List (List (List ℕ))) (grouping : ℕ) (format : Format) (from to : ReaderState) (before after : WriterState) (result : Result ℕ RunFault)
     → EndedBeforeReading result ⊎ RunOverSources sources users grouping format from to before after result
-    → IfOk result (WroteSegmentationBy sources users grouping format from to before after)
+    → IfOk result (λ lines. (o : Overlay) × HaveOverlay sources users grouping o × WroteSegmentation o format from to before after lines)
 segmented_by sources users grouping format from to before after (Err fault) run = tt
 segmented_by sources users grouping format from to before after (Ok lines) (inl early) = absurd early
 segmented_by sources users grouping format from to before after (Ok lines) (inr run) =

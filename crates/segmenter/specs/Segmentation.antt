@@ -2,10 +2,8 @@
 use Rattle.std.specs.Prelude.{◌≡◌, ℕ, ◌+◌, List, length, false}
 use Rattle.std.specs.Io.KnownBytes.{Consumes, Appends, IsAtEnd}
 use Rattle.mj_model.specs.Counts.{ReaderState, WriterState}
-use Rattle.mj_model.specs.declared.sources.Sources.{Sources}
 use Rattle.mj_model.specs.Output.{text_lines}
 use Rattle.mj_model.specs.Tables.{Overlay}
-use Rattle.dict_compile.specs.SourceOverlays.{HaveOverlay}
 use Rattle.out_format.specs.Formats.{Format}
 use Rattle.out_format.specs.Segmentation.{IsSegmentation}
 
@@ -22,8 +20,3 @@ pub record WroteSegmentation (o : Overlay) (format : Format) (reader_before read
   pub written : Appends writer_before.held writer_after.held output
   pub one_flush : writer_after.flushes ≡ writer_before.flushes + 1
   pub flushed : writer_after.unflushed ≡ false
-
--- the run segmented its text with the dictionaries that sources and user lexicons define
-abbrev pub WroteSegmentationBy : Sources → List (List (List ℕ)) → ℕ → Format → ReaderState → ReaderState → WriterState → WriterState → ℕ → Type 0
-WroteSegmentationBy sources users grouping format from to before after lines =
-    (o : Overlay) × HaveOverlay sources users grouping o × WroteSegmentation o format from to before after lines

@@ -5,10 +5,11 @@ ghost use Rattle.mj_model.specs.declared.limits.TheConstants.{GROUPING_MAX, READ
 ghost use Rattle.mj_model.specs.declared.run_fault.RunFault.TheVariants.{Source, UserSource};
 ghost use Rattle.mj_model.specs.declared.source_fault.SourceFault.{SourceFault as FaultOf};
 ghost use Rattle.dict_compile.specs.Compilation.{IsCompilationCause, IsCompilationFault};
-ghost use Rattle.dict_compile.specs.SourceOverlays.{IsUsersCause, IsUsersFault};
+ghost use Rattle.dict_compile.specs.SourceOverlays.{HaveOverlay, IsUsersCause, IsUsersFault};
+ghost use Rattle.mj_model.specs.Tables.{Overlay};
 ghost use Rattle.line_stream.specs.GoodRuns.{IsOkOrMemory, NothingFails};
 ghost use Rattle.line_stream.specs.Runs.{MayRun};
-ghost use Rattle.segmenter.specs.Segmentation.{WroteSegmentationBy};
+ghost use Rattle.segmenter.specs.Segmentation.{WroteSegmentation};
 ghost use Rattle.segmenter.specs.SourceRuns.{EndedBeforeReading, RunOverSources};
 ghost use Rattle.segmenter.specs.SourceDicts.{IsRejectedFor, users_of};
 
@@ -39,9 +40,10 @@ pub fn run_sources<R: TextIn, W: TextOut>(
     requires counts { MayRun (R.state reader.old) (W.state writer.old) }
     // If the result is Ok, the sources and user lexicons define dictionaries, the whole text was
     // read, all its lines are valid, and its segmentation was written and flushed once.
-    ensures ok { IfOk result (WroteSegmentationBy
-        sources.now (users_of users.now) grouping format.now
-        (R.state reader.old) (R.state reader.new) (W.state writer.old) (W.state writer.new)) }
+    ensures ok { IfOk result (λ lines. (o : Overlay)
+        × HaveOverlay sources.now (users_of users.now) grouping o
+        × WroteSegmentation o format.now (R.state reader.old) (R.state reader.new)
+        (W.state writer.old) (W.state writer.new) lines) }
     // An error of the sources or of a user's lexicons has its cause.
     ensures source { (fault : FaultOf) → result ≡ Err (Source fault)
         → IsCompilationCause sources.now fault }
