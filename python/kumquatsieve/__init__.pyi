@@ -117,7 +117,7 @@ class ImageInfo(NamedTuple):
     size: int
     sha256: bytes
     layout: int
-    is_user: int
+    is_user: bool
     entries: int
     unknown_entries: int
     surfaces: int

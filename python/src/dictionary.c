@@ -171,7 +171,7 @@ static void free_dictionary(PyObject *object) {
     Py_DECREF(module);
 }
 
-/* Returns what the library says of each image, in a list of ImageInfo. */
+/* Returns a description of each image, in a list of ImageInfo. */
 static PyObject *get_images(PyObject *object, void *unused) {
     dictionary *self = (dictionary *)object;
     PyObject *kind = item_of("kumquatsieve._lattice", "ImageInfo");
@@ -184,9 +184,9 @@ static PyObject *get_images(PyObject *object, void *unused) {
         PyObject *path =
             info.path ? PyUnicode_DecodeFSDefault(info.path) : (Py_INCREF(Py_None), Py_None);
         PyObject *item = PyObject_CallFunction(
-            kind, "NKy#IiIIIIINN", path, (unsigned long long)info.size, (const char *)info.sha256,
-            (Py_ssize_t)sizeof info.sha256, info.layout, (int)info.is_user, info.entries,
-            info.unknown_entries, info.surfaces, info.left_ids, info.right_ids,
+            kind, "NKy#IOIIIIINN", path, (unsigned long long)info.size, (const char *)info.sha256,
+            (Py_ssize_t)sizeof info.sha256, info.layout, info.is_user ? Py_True : Py_False,
+            info.entries, info.unknown_entries, info.surfaces, info.left_ids, info.right_ids,
             texts_of(info.categories, info.category_count),
             texts_of(info.fields, info.field_count));
         if (item == NULL || PyList_Append(list, item) < 0) Py_CLEAR(list);
@@ -205,7 +205,7 @@ static PyMethodDef methods[] = {
     {NULL, NULL, 0, NULL}};
 
 static PyGetSetDef getters[] = {
-    {"images", get_images, NULL, "What the library says of each image, the system's first.", NULL},
+    {"images", get_images, NULL, "A description of each image, the system's first.", NULL},
     {NULL, NULL, NULL, NULL, NULL}};
 
 static PyMemberDef members[] = {

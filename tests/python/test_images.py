@@ -381,8 +381,9 @@ def test_a_bare_name_beside_bytes_is_that_of_an_installed_image(system, user, in
 def test_what_is_known_of_images(system, user):
     dictionary = Dictionary(system, [user])
     first, second = dictionary.images
-    assert (first.path, first.is_user, first.entries, first.surfaces) == (system, 0, 3, 3)
-    assert (second.path, second.is_user, second.entries) == (user, 1, 1)
+    assert (first.path, first.entries, first.surfaces) == (system, 3, 3)
+    assert (second.path, second.entries) == (user, 1)
+    assert first.is_user is False and second.is_user is True
     assert (first.size, first.sha256) == (os.path.getsize(system), read(system)[-32:])
     assert (first.left_ids, first.right_ids, first.layout) == (2, 2, 3)
     assert "DEFAULT" in first.categories and second.categories == ()

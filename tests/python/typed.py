@@ -10,6 +10,7 @@ dictionary = Dictionary("ipadic", [Path("user.img")], fields=["pos", None], test
 image: ImageInfo = dictionary.images[0]
 categories: Tuple[str, ...] = image.categories
 path: Optional[str] = image.path
+is_user: bool = image.is_user
 entries: Words = dictionary.lookup("もも", prefixes=True)
 
 
