@@ -102,7 +102,7 @@ def commands_in(text: str) -> List[Command]:
 
 
 def sql_in(text: str, needs: Sequence[str]) -> Command:
-    """Returns the command that runs SQL, and what its comments say that it prints."""
+    """Returns the command that runs SQL, and the output that its comments show."""
     client = next(client for need, client in SQL_CLIENTS.items() if need in needs)
     lines = [line for line in text.splitlines(keepends=True) if line.startswith(SQL_RESULT)]
     shown = "".join(line.removeprefix(SQL_RESULT) for line in lines)

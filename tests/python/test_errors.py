@@ -1,4 +1,4 @@
-"""A KumquatsieveError is an exception that says what to do, and can be pickled."""
+"""A KumquatsieveError is an exception that names what to do, and can be pickled."""
 import copy
 import multiprocessing
 import os
