@@ -6,29 +6,38 @@
 #include <string.h>
 SQLITE_EXTENSION_INIT3
 
-/* What the extension keeps for a connection: the text of its last error, or NULL, and the
-   dictionary that was opened last, or NULL. The next statement that names it finds it open. */
+/* What a connection has: the table of kumquatsieve_words, the text of the last error, or NULL, and
+   the dictionary that was opened last, or NULL. The next statement that names it finds it open. */
 typedef struct connection {
+    sqlite3_vtab words;
     char *error;
     kumquatsieve_dictionary *dictionary;
 } connection;
 
-/* Sets the text of the last error, and returns SQLITE_ERROR, or SQLITE_NOMEM if there is no memory
-   for the text. SQLite has a text of its own for SQLITE_NOMEM. */
-int report(connection *of, const char *format, ...);
+/* A segmenter, and a text that it segments line by line: the next line starts at `next`. The words
+   are those of a line. `number` is the current one, or at least `count` at the end of the text. */
+typedef struct word_reader {
+    connection *in;
+    kumquatsieve_segmenter segmenter;
+    const char *text;
+    size_t length, next, count, number;
+    const kumquatsieve_word *words;
+} word_reader;
+
+/* Keeps `kumquatsieve: ` and a text, which it frees, as the last error. Returns SQLITE_ERROR, or
+   SQLITE_NOMEM if memory ran out, for which SQLite has a text of its own. */
+int keep_error(connection *of, char *text);
+#define report(of, ...) keep_error(of, sqlite3_mprintf(__VA_ARGS__))
 /* Reports the error of a call of the library, if it failed. */
 int report_error(connection *of, const kumquatsieve_error *error);
-/* Opens a list of dictionaries: the name or path of the system dictionary, and those of user
-   dictionaries, separated by commas. An empty first name is the default. */
-int open_dictionary(connection *of, const char *list, uint32_t flags);
+/* Opens a segmenter, in place of the one before, over a list of dictionaries with commas between
+   them: the system dictionary, which is the default if its name is empty, and user dictionaries. */
+int open_segmenter(word_reader *of, const char *list, uint32_t flags);
 /* Returns the SHA-256 and the number of entries of each image of the dictionary, such as `9c0d…
-   392126`, with a comma before each image but the first. Returns NULL if memory runs out. */
+   392126`, with commas between them, or NULL if memory runs out. The caller frees it. */
 char *make_fingerprint(const kumquatsieve_dictionary *of);
-/* Segments the line at a position of a text, moves the position to the next line, and borrows the
-   words. */
-int segment_line(connection *of, kumquatsieve_segmenter *segmenter, const char *text, size_t length,
-                 size_t *at, const kumquatsieve_word **words, size_t *count);
+/* Moves to the next word, or to the end of the text. After an error there is no word. */
+int read_word(word_reader *of);
 
 extern fts5_tokenizer kumquatsieve_tokenizer;
-extern const sqlite3_module kumquatsieve_words_module;
 #endif
