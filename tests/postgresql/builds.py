@@ -14,10 +14,9 @@ EXPORTED = re.compile(r"Pg_magic_func|_PG_init|pg_finfo_\w+|(parser|base|stop|di
 LINES_MOST, FILE_MOST = 500, 300
 
 
-def code_lines(path: Path) -> int:
-    """Returns how many lines of a C file are neither blank nor comments."""
-    text = re.sub(r"/\*.*?\*/", "", path.read_text(), flags=re.S)
-    return sum(bool(line.strip()) for line in text.splitlines())
+def line_count(path: Path) -> int:
+    """Returns how many lines a file has, with blank ones and comments, as `wc -l` does."""
+    return path.read_text().count("\n")
 
 
 def check_compilers(folder: Path, compilers: Sequence[str]) -> int:
@@ -45,8 +44,8 @@ def check_exports(library: Path) -> List[str]:
 
 def check_lines(files: Sequence[Path]) -> List[str]:
     """Returns which files of an extension are too long, and whether all of them are together."""
-    wrong = [f"{path} is long" for path in files if len(path.read_text().split("\n")) > FILE_MOST]
-    total = sum(code_lines(path) for path in files)
+    wrong = [f"{path} is long" for path in files if line_count(path) > FILE_MOST]
+    total = sum(line_count(path) for path in files)
     return wrong + ([f"{total} lines of C"] if total > LINES_MOST else [])
 
 
