@@ -3,14 +3,14 @@
 #![tactic(auto)]
 
 use dictc_lib::{print_hints, read_command, run_command};
-use messages::dictc::texts;
-use messages::subjects;
+use messages::dictc::{HELP, HINTS};
+use messages::{subjects, texts};
 use programs::{arguments, run_program};
 use std::process::ExitCode;
 
 fn main(rt: HostRuntime) -> ExitCode {
     let explanations = subjects();
-    let texts = texts(&explanations);
+    let texts = texts(&HELP, &HINTS, &explanations);
     let words = arguments(&rt, "dictc");
     run_program(
         &rt,

@@ -2,15 +2,15 @@
 #![tactic(auto)]
 
 use jseg_lib::{print_hints, read_command, run_command};
-use messages::jseg::texts;
-use messages::subjects;
+use messages::jseg::{HELP, HINTS};
+use messages::{subjects, texts};
 use programs::{arguments, run_program};
 use std::process::ExitCode;
 
 fn main(rt: HostRuntime) -> ExitCode {
-    let explanations = subjects();
-    let texts = texts(&explanations);
     let words = arguments(&rt, "jseg");
+    let explanations = subjects();
+    let texts = texts(&HELP, &HINTS, &explanations);
     run_program(
         &rt,
         "jseg",

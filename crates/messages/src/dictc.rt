@@ -1,20 +1,10 @@
 //! The texts of `dictc`.
 
-use crate::shared::{EXPLAIN, SKIP_DIGEST, VERBOSE, VERSION};
-use command_lines::{Explanation, Texts};
+use crate::shared::{EXPLAIN, SKIP_DIGEST, VERBOSE};
 
-/// Returns the texts of `dictc`, with these explanations of error codes.
-pub fn texts<'a>(explanations: &'a [&'static [Explanation]]) -> Texts<'a> {
-    Texts {
-        version: VERSION,
-        help: &HELP,
-        hints: &HINTS,
-        explanations,
-    }
-}
-
+/// Help of `dictc`, each text after its key.
 #[rattlefmt::skip]
-static HELP: [(&str, &str); 17] = [
+pub static HELP: [(&str, &str); 17] = [
     // what it and its subcommands do
     ("dictc", "Compiles the sources of a dictionary to an image"),
     ("system", "Compiles a system dictionary"),
@@ -39,8 +29,9 @@ static HELP: [(&str, &str); 17] = [
     EXPLAIN,
 ];
 
+/// Hints for invalid command lines of `dictc`, each text after its key.
 #[rattlefmt::skip]
-static HINTS: [(&str, &str); 9] = [
+pub static HINTS: [(&str, &str); 9] = [
     (
         "userdic",
         "-u is not supported: for a user dictionary use 'dictc user --dic IMG --out USERIMG LEX..'",

@@ -1,20 +1,10 @@
 //! The texts of `jseg`.
 
-use crate::shared::{EXPLAIN, SKIP_DIGEST, VERBOSE, VERSION};
-use command_lines::{Explanation, Texts};
+use crate::shared::{EXPLAIN, SKIP_DIGEST, VERBOSE};
 
-/// Returns the texts of `jseg`, with these explanations of error codes.
-pub fn texts<'a>(explanations: &'a [&'static [Explanation]]) -> Texts<'a> {
-    Texts {
-        version: VERSION,
-        help: &HELP,
-        hints: &HINTS,
-        explanations,
-    }
-}
-
+/// Help of `jseg`, each text after its key.
 #[rattlefmt::skip]
-static HELP: [(&str, &str); 18] = [
+pub static HELP: [(&str, &str); 18] = [
     // what it does
     ("jseg", "Segments Japanese text from standard input into words"),
     // help of its options, by id
@@ -52,8 +42,9 @@ static HELP: [(&str, &str); 18] = [
     EXPLAIN,
 ];
 
+/// Hints for invalid command lines of `jseg`, each text after its key.
 #[rattlefmt::skip]
-static HINTS: [(&str, &str); 30] = [
+pub static HINTS: [(&str, &str); 30] = [
     ("words", "the text is read from standard input, so run 'jseg -d IMG < FILE'"),
     ("nbest", "-N is not supported: jseg prints only the best path; remove the option"),
     ("all-morphs", "-a is not supported: use --lattice tsv to print all words of a line"),

@@ -6,7 +6,8 @@
 //!
 //! ```text
 //! let explanations = subjects();
-//! jseg::texts(&explanations).version   // "0.1.0\nimage layouts read: 1, 2, 3; written: 3"
+//! let texts = texts(&jseg::HELP, &jseg::HINTS, &explanations);
+//! texts.version   // "0.1.0\nimage layouts read: 1, 2, 3; written: 3"
 //! ```
 //! `jseg --version` prints it, which `tests/cli/cases/about.py` tests.
 #![tactic(auto)]
@@ -17,3 +18,4 @@ pub mod jseg;
 mod shared;
 
 pub use explanations::subjects;
+pub use shared::texts;

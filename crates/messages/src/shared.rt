@@ -1,5 +1,22 @@
 //! Texts that both programs have.
 
+use command_lines::{Explanation, Texts};
+
+/// Returns the texts of a program with this help and these hints, each after its key, and with these
+/// explanations of error codes.
+pub fn texts<'a>(
+    help: &'static [(&'static str, &'static str)],
+    hints: &'static [(&'static str, &'static str)],
+    explanations: &'a [&'static [Explanation]],
+) -> Texts<'a> {
+    Texts {
+        version: VERSION,
+        help,
+        hints,
+        explanations,
+    }
+}
+
 /// Version of the programs, and the layouts of the images that they read and write.
 pub(crate) const VERSION: &str = "0.1.0\nimage layouts read: 1, 2, 3; written: 3";
 
