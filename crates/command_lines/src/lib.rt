@@ -25,6 +25,6 @@ mod words;
 
 pub use explanation::Explanation;
 pub use one_line::EscapedLine;
-pub use options_fault::OptionsFault;
+pub use options_fault::{OptionsFault, Parsed};
 pub use texts::Texts;
 pub use words::arguments;

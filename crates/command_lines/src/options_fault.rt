@@ -22,6 +22,9 @@ pub enum OptionsFault {
     Memory,
 }
 
+/// The result of parsing a command line.
+pub type Parsed<C> = Result<C, OptionsFault>;
+
 impl OptionsFault {
     /// Returns the error if the arguments can't be read: an allocation failed, or an argument is
     /// not UTF-8.

@@ -1,7 +1,7 @@
 //! The command line with its image names resolved to paths.
 
 use command_lines::jseg::{Command, Input, parse_command};
-use command_lines::{OptionsFault, Texts};
+use command_lines::{OptionsFault, Parsed, Texts};
 use programs::{EscapedLine, image_path};
 use std::alloc::Global;
 use std::fs;
@@ -15,11 +15,7 @@ const MECAB_FILES: [&str; 2] = ["sys.dic", "matrix.def"];
 
 /// Parses the words that follow the program's name, and resolves the image names to paths. A
 /// directory of MeCab as `-d` is an error. Help and hints are taken from `texts`.
-pub fn read_command(
-    rt: &HostRuntime,
-    words: Vec<String>,
-    texts: &Texts<'_>,
-) -> Result<Command, OptionsFault> {
+pub fn read_command(rt: &HostRuntime, words: Vec<String>, texts: &Texts<'_>) -> Parsed<Command> {
     let mut command = parse_command(rt.alloc(), words, texts)?;
     if let Command::Segment(options) = &mut command {
         find_images(rt, &mut options.input)?;

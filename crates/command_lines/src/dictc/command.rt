@@ -3,7 +3,7 @@
 use super::choices::{Base, Command, IdsOptions, Options};
 use super::mecab_hints::hint_for;
 use super::rows::{compiling_rows, ids_rows, rows, system_rows, user_rows};
-use crate::options_fault::OptionsFault;
+use crate::options_fault::{OptionsFault, Parsed};
 use crate::row::{Row, with_rows};
 use crate::texts::Texts;
 use crate::words::{
@@ -33,11 +33,7 @@ const NO_SUBCOMMAND: &str = "no subcommand";
 
 /// Parses the words that follow the program's name. Help, hints and explanations are taken from
 /// `texts`.
-pub fn parse_command(
-    alloc: Global,
-    words: Vec<String>,
-    texts: &Texts<'_>,
-) -> Result<Command, OptionsFault> {
+pub fn parse_command(alloc: Global, words: Vec<String>, texts: &Texts<'_>) -> Parsed<Command> {
     let reported = with_feed_placeholders(alloc, &words)?;
     check(alloc, NAME, command(alloc, texts)?, &reported).map_err(|fault| parser_error(
         alloc, fault, &words, texts,
@@ -98,35 +94,22 @@ fn with_subcommands<'a>(
     command: ClapCommand<'a>,
     texts: &Texts<'_>,
 ) -> Result<ClapCommand<'a>, AllocError> {
-    let command = command.subcommand(compiling(alloc, SYSTEM, system_rows(), texts)?)?;
-    let command = command.subcommand(compiling(alloc, USER, user_rows(), texts)?)?;
-    command.subcommand(subcommand(alloc, IDS, ids_rows(), texts)?)
+    let shared = compiling_rows();
+    let command = command.subcommand(subcommand(alloc, SYSTEM, system_rows(), shared, texts)?)?;
+    let command = command.subcommand(subcommand(alloc, USER, user_rows(), shared, texts)?)?;
+    command.subcommand(subcommand(alloc, IDS, ids_rows(), &[], texts)?)
 }
 
-/// Returns a compiling subcommand: its own rows, and then those that both of them share.
-fn compiling<'a>(
-    alloc: Global,
-    name: &'static str,
-    rows: &[Row],
-    texts: &Texts<'_>,
-) -> Result<ClapCommand<'a>, AllocError> {
-    with_rows(
-        alloc,
-        subcommand(alloc, name, rows, texts)?,
-        compiling_rows(),
-        texts,
-    )
-}
-
-/// Returns a subcommand with the rows of a table.
+/// Returns a subcommand with its own rows, and then those that it shares with others.
 fn subcommand<'a>(
     alloc: Global,
     name: &'static str,
-    rows: &[Row],
+    own: &[Row],
+    shared: &[Row],
     texts: &Texts<'_>,
 ) -> Result<ClapCommand<'a>, AllocError> {
     let command = ClapCommand::new(alloc, name).about(texts.help_of(name));
-    with_rows(alloc, command, rows, texts)
+    with_rows(alloc, with_rows(alloc, command, own, texts)?, shared, texts)
 }
 
 /// Returns the options of a compiling subcommand.

@@ -3,7 +3,7 @@
 use super::choices::{Command, Form, Input, LatticeChoice, Options, ViewChoice};
 use super::mecab_hints::{hint_for, rejected_rows};
 use super::rows::{INPUTS, rows};
-use crate::options_fault::OptionsFault;
+use crate::options_fault::{OptionsFault, Parsed};
 use crate::row::with_rows;
 use crate::texts::Texts;
 use crate::words::{check, file_after, found, text_of, texts_of, with_feed_placeholders};
@@ -26,11 +26,7 @@ const NO_LATTICE: &str = "no lattice";
 
 /// Parses the words that follow the program's name. Help, hints and explanations are taken from
 /// `texts`.
-pub fn parse_command(
-    alloc: Global,
-    words: Vec<String>,
-    texts: &Texts<'_>,
-) -> Result<Command, OptionsFault> {
+pub fn parse_command(alloc: Global, words: Vec<String>, texts: &Texts<'_>) -> Parsed<Command> {
     let reported = with_feed_placeholders(alloc, &words)?;
     check(alloc, NAME, command(alloc, texts)?, &reported).map_err(|fault| parser_error(
         alloc, fault, &words,
