@@ -1,8 +1,8 @@
 //! Errors of a line, and of a run over a stream of lines.
 
 ghost use Rattle.std.specs.Prelude.{◌≡◌};
-ghost use Rattle.line_stream.specs.LineErrors.{run_fault};
 ghost use Rattle.line_stream.specs.declared.line_fault.LineError.TheVariants.{Memory};
+ghost use Rattle.line_stream.specs.LineErrors.{run_fault};
 
 use mj_model::RunFault;
 use std::alloc::AllocError;

@@ -34,8 +34,8 @@ pub fn split_at_feed(bytes: &[u8], at: usize) -> (&[u8], &[u8])
 /// `sent` counts the bytes written since the run started.
 fn process_line<P: LinePrinter, W: TextOut>(
     printer: &P,
-    kept: &mut P::Buffers,
     part: &[u8],
+    kept: &mut P::Buffers,
     progress: &mut StreamState,
     writer: &mut W,
     sent: &mut u128,
@@ -98,7 +98,7 @@ pub fn work<P: LinePrinter, W: TextOut>(
     let mut rest = piece;
     while let Some(at) = memchr(b'\n', rest) {
         let (line, following) = split_at_feed(rest, at);
-        process_line(printer, kept, line, progress, writer, sent)?;
+        process_line(printer, line, kept, progress, writer, sent)?;
         rest = following;
     }
     match append_pending(&mut progress.pending, rest) {
