@@ -33,9 +33,9 @@ pub fn compile_user(
     system: &Dict,
     lexicons: &[&[u8]],
 ) -> Result<Compiled, CompileUserFault>
+    ensures not_system { (result ≡ Err NotSystem) ↔ ((image_tables system.now).kind ≡ User) }
     ensures compiled { IfOk result (IsUserCompiledFrom system.now (lexicons_of lexicons.now)) }
     ensures every_key { IfOk result (FindsUserKeysFrom system.now (lexicons_of lexicons.now)) }
-    ensures not_system { (result ≡ Err NotSystem) ↔ ((image_tables system.now).kind ≡ User) }
     ensures rejected { IsUserError system.now (lexicons_of lexicons.now) result }
     ensures first { IsUserRejectedAtFault system.now (lexicons_of lexicons.now) result }
 {
