@@ -39,17 +39,13 @@ pub fn append_parts<S: ItemPrinter>(
     ensures unchanged { take (vec_len out.old) out.new.items ≡ out.old.items }
 {
     for part in parts {
-        append_part(subject, part, out)?;
+        append_one(subject, part, out)?;
     }
     Ok(())
 }
 
 /// Appends the text of `part`, with the items of `subject`.
-fn append_part<S: ItemPrinter>(
-    subject: &S,
-    part: &Part,
-    out: &mut Vec<u8>,
-) -> Result<(), AllocError>
+fn append_one<S: ItemPrinter>(subject: &S, part: &Part, out: &mut Vec<u8>) -> Result<(), AllocError>
     requires { S.is_printable subject.now }
     ensures appended { OnOk result (GrowsBy (PrintsPieces (S.prints subject.now)
         (pieces_in part.now)) out.old.items out.new.items) }

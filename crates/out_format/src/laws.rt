@@ -6,6 +6,12 @@ ghost use Rattle.out_format.specs.Formats.{HasOneFormat};
 ghost use Rattle.out_format.specs.ItemTable.{listed_items};
 ghost use Rattle.out_format.specs.PrintedPaths.{HasOneText};
 
+/// The table of items, row by row: letters, item, and the parts that may use it. A definition that
+/// cites the table means these rows.
+pub fn item_table()
+    ensures { ITEMS ≡ listed_items }
+{}
+
 /// Each four texts parse in exactly one way: as one format, or with one first error.
 pub fn one_format()
     ensures { HasOneFormat }
@@ -14,10 +20,4 @@ pub fn one_format()
 /// Each path of a line prints exactly one text in a format.
 pub fn one_text()
     ensures { HasOneText }
-{}
-
-/// The table of items, row by row: letters, item, and the parts that may use it. A definition that
-/// cites the table means these rows.
-pub fn item_table()
-    ensures { ITEMS ≡ listed_items }
 {}

@@ -87,37 +87,16 @@ fn append_path<'a, W: WordStream + Drop>(
     ensures unchanged { take (vec_len out.old) out.new.items ≡ out.old.items }
 {
     append_parts(&Line { text, cost: 0 }, format.bos_parts(), out)?;
-    append_all_words(format, dictionaries, text, words, out)?;
+    append_words(format, dictionaries, text, words, out)?;
     append_parts(&Line { text, cost: total }, format.eos_parts(), out)
-}
-
-/// Appends the text of `words`, the first of which follows BOS. Skips costs and fields if the
-/// format doesn't use them.
-fn append_all_words<'a, W: WordStream + Drop>(
-    format: &Format,
-    dictionaries: &'a Dictionaries<'a>,
-    text: &'a str,
-    words: W,
-    out: &mut Vec<u8>,
-) -> Result<(), AllocError>
-    requires { AreFollowable (overlay_of dictionaries.now) text.now 0 (pos 0) (W.left words) }
-    ensures appended { OnOk result (GrowsBy (PrintsWords (overlay_of dictionaries.now) format.now
-        text.now 0 (pos 0) (W.left words)) out.old.items out.new.items) }
-    ensures unchanged { take (vec_len out.old) out.new.items ≡ out.old.items }
-{
-    if format.has_plain_words() {
-        append_plain_words(format, dictionaries, text, words, out)
-    } else {
-        append_words(format, dictionaries, text, words, out)
-    }
 }
 
 /// Appends the text of `words` in a format that uses only surfaces and features.
 fn append_plain_words<'a, W: WordStream + Drop>(
-    format: &Format,
     dictionaries: &'a Dictionaries<'a>,
     text: &'a str,
     words: W,
+    format: &Format,
     out: &mut Vec<u8>,
 ) -> Result<(), AllocError>
     requires words { AreFollowable (overlay_of dictionaries.now) text.now 0 (pos 0) (W.left words) }
@@ -138,7 +117,8 @@ fn append_plain_words<'a, W: WordStream + Drop>(
     Ok(())
 }
 
-/// Appends the text of `words` in any format.
+/// Appends the text of `words`, the first of which follows BOS. Skips costs and fields if the
+/// format doesn't use them.
 fn append_words<'a, W: WordStream + Drop>(
     format: &Format,
     dictionaries: &'a Dictionaries<'a>,
@@ -151,6 +131,9 @@ fn append_words<'a, W: WordStream + Drop>(
         text.now 0 (pos 0) (W.left words)) out.old.items out.new.items) }
     ensures unchanged { take (vec_len out.old) out.new.items ≡ out.old.items }
 {
+    if format.has_plain_words() {
+        return append_plain_words(dictionaries, text, words, format, out);
+    }
     let mut words = words;
     let mut right_before: u16 = 0;
     let mut cost_so_far: i64 = 0;

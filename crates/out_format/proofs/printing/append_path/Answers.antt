@@ -12,4 +12,4 @@ returns-clause-appended g c =
     let fits : SFits w64 total = search rules in
     let same : to_z w64 (of_z w64 total) ≡ total = to_z-of_z w64 total fits in
     path_shown c.append_parts-2.result (overlay_of c.args.dictionaries.now) c.args.format.now c.args.text.now (g.W.WordStream.left c.args.words) (to_z w64 (of_z w64 total)) _ _ c.args.out.now.items _ _
-    c.append_parts-2.new.out.items c.bos_parts.ensures c.eos_parts.ensures (same ∙ c.requires.total) c.in_ok-append_parts.ensures.appended c.in_ok-append_all_words.ensures.appended c.append_parts-2.ensures.appended
+    c.append_parts-2.new.out.items c.bos_parts.ensures c.eos_parts.ensures (same ∙ c.requires.total) c.in_ok-append_parts.ensures.appended c.in_ok-append_words.ensures.appended c.append_parts-2.ensures.appended

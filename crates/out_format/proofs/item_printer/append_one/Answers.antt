@@ -1,7 +1,7 @@
 use Rattle.out_format.specs.PrintedPaths.{PrintsPieces}
 use Rattle.out_format.specs.Pieces.{pieces_in}
 use Rattle.out_format.proofs.PrintedLemmas.{shown_as, bytes_shown}
-use Rattle.out_format.proofs.item_printer.append_part.Goals as goal
+use Rattle.out_format.proofs.item_printer.append_one.Goals as goal
 
 pub returns-in-Bytes-clause-appended : goal.returns-in-Bytes-clause-appended
 returns-in-Bytes-clause-appended g c =
