@@ -150,10 +150,10 @@ fn append_in_label(byte: u8, out: &mut Vec<u8>) -> Result<(), AllocError>
     ensures unchanged { take (vec_len out.old) out.new.items ≡ out.old.items }
 {
     match byte {
+        0x00..=0x1f | 0x7f => append_by_code(byte, out),
         b'"' => out.extend_from_slice(b"\\\""),
         b'\\' => out.extend_from_slice(b"\\\\"),
         b'&' => out.extend_from_slice(b"&amp;"),
-        0x00..=0x1f | 0x7f => append_by_code(byte, out),
         _ => out.extend_from_slice(&[byte]),
     }
 }
