@@ -1,6 +1,6 @@
 -- The effect of calls on a segmenter, except for those that set a format or a grouping.
 use Rattle.std.specs.Prelude.{◌≡◌, ◌≢◌, ℕ, ℤ, List, [], length, Option, None}
-use Rattle.line_segmenter.specs.Segmenters.{SegmentedLine, SegmenterState, IsLoaded, OfLastLine, with_user}
+use Rattle.line_segmenter.specs.Segmenters.{FitTogether, SegmentedLine, SegmenterState, IsLoaded, OfLastLine, with_added}
 use Rattle.line_segmenter.specs.declared.fault.SegmentFault.{SegmentFault}
 use Rattle.line_segmenter.specs.Faults.{IsImage, IsLineError, IsLoadError, IsOneLine, IsTextError, IsAddUserError}
 use Rattle.capi.specs.declared.segmenting.Extent.{Extent}
@@ -20,9 +20,9 @@ pub record IsLoadedFrom (digest : DigestTest) (image : List ℕ) (h : SegmenterS
 
 -- a user dictionary, which fits the others, was added to the segmenter
 pub record IsExtended (digest : DigestTest) (image : List ℕ) (old new : SegmenterState) : Type 0 where
-  pub extended : new ≡ record old { images = with_user old.images image; segmented = None }
+  pub extended : new ≡ with_added old image
   pub accepted : IsImage digest image
-  pub fits : fault_of_images new.images.system new.images.users ≡ None
+  pub fits : FitTogether new.images
 
 -- the new segmenter shares dictionaries, format and grouping with the old one
 abbrev pub IsShared : SegmenterState → SegmenterState → Type 0

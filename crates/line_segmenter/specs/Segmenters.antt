@@ -58,6 +58,14 @@ overlay_of_state held = overlay_in held.images held.grouping
 abbrev pub with_user : Images → List ℕ → Images
 with_user images user = record { system = images.system; users = images.users ++ user ∷ [] }
 
+-- the segmenter with a further user dictionary, and without a last line
+abbrev pub with_added : SegmenterState → List ℕ → SegmenterState
+with_added h user = record h { images = with_user h.images user; segmented = None }
+
+-- the overlay of the images has no error
+abbrev pub FitTogether : Images → Type 0
+FitTogether images = fault_of_images images.system images.users ≡ None
+
 -- the text is valid, the words are its best path, and the total is the cost of the path
 pub record IsSegmentedOver (o : Overlay) (c : SegmentedLine) : Type 0 where
   pub short : length c.text ≤ SENTENCE_MAX

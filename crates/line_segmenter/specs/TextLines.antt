@@ -9,7 +9,9 @@ use Rattle.out_format.specs.PrintedLines.{LineResult}
 use Rattle.out_format.specs.declared.words_printer.printer.WordsPrinter.{WordsPrinter}
 use Rattle.line_segmenter.specs.declared.fault.SegmentFault.{SegmentFault}
 use Rattle.line_segmenter.specs.declared.fault.SegmentFault.TheVariants as segment
+use Rattle.line_segmenter.specs.declared.text_lines.LinesFault.{LinesFault}
 use Rattle.line_segmenter.specs.Segmenters.{SegmenterState, overlay_of_state}
+use Rattle.mj_model.specs.Lists.{GrowsBy}
 
 -- the output of a line with a segmenter's dictionaries and format, or the error of the line
 abbrev pub SegmenterLineResult : SegmenterState → List ℕ → Result (List ℕ) LineFault → Type 0
@@ -23,9 +25,17 @@ LineResultBy printer = LineResult (overlay_of printer.dictionaries) printer.form
 abbrev pub ParsesLines : SegmenterState → List ℕ → ℕ → List ℕ → Type 0
 ParsesLines h text lines shown = PrintsLines (SegmenterLineResult h) text lines shown
 
+-- the output grows by the lines of the text, and `lines` is their number
+abbrev pub AppendsLines : SegmenterState → List ℕ → List ℕ → List ℕ → ℕ → Type 0
+AppendsLines h text old new lines = GrowsBy (ParsesLines h text lines) old new
+
 -- why printing stopped at the line with this number; the lines before it printed
 abbrev pub StopsFor : SegmenterState → List ℕ → ℕ → SegmentFault → List ℕ → Type 0
 StopsFor h text number segment.TooLong shown = StopsAt (SegmenterLineResult h) text number (line.Bad TooLong) shown
 StopsFor h text number segment.NotUtf8 shown = StopsAt (SegmenterLineResult h) text number (line.Bad NotUtf8) shown
 StopsFor h text number segment.Memory shown = StopsAt (SegmenterLineResult h) text number line.Memory shown
 StopsFor h text number fault shown = ⊥
+
+-- the output grows by the lines before the one at which printing stopped
+abbrev pub AppendsUpTo : SegmenterState → List ℕ → List ℕ → List ℕ → LinesFault → Type 0
+AppendsUpTo h text old new stopped = GrowsBy (StopsFor h text stopped.line stopped.fault) old new

@@ -54,10 +54,10 @@ impl NamedFault for SegmentFault {
             SegmentFault::NotUtf8 => ("G3", "NotUtf8"),
             SegmentFault::TooLong => ("G4", "TooLong"),
             SegmentFault::LineFeed(_) => ("K1", "LineFeed"),
+            SegmentFault::NoWord(_) => ("K8", "NoWord"),
             SegmentFault::NothingSegmented => ("K2", "NothingSegmented"),
             SegmentFault::Shared => ("K3", "Shared"),
             SegmentFault::BadGrouping => ("K4", "BadGrouping"),
-            SegmentFault::NoWord(_) => ("K8", "NoWord"),
             SegmentFault::Memory => ("Memory", "Memory"),
         }
     }
@@ -115,6 +115,14 @@ impl From<OverlayFault> for SegmentFault {
     }
 }
 
+impl From<AllocError> for SegmentFault {
+    ghost from_gives = { λ _ fault. fault ≡ Memory };
+
+    fn from(_refused: AllocError) -> SegmentFault {
+        SegmentFault::Memory
+    }
+}
+
 impl Display for SegmentFault {
     fn fmt<W: Write>(&self, f: &mut Formatter<W>) -> fmt::Result {
         match *self {
@@ -126,14 +134,6 @@ impl Display for SegmentFault {
             }
             _ => write_code_and_name(*self, f),
         }
-    }
-}
-
-impl From<AllocError> for SegmentFault {
-    ghost from_gives = { λ _ fault. fault ≡ Memory };
-
-    fn from(_refused: AllocError) -> SegmentFault {
-        SegmentFault::Memory
     }
 }
 

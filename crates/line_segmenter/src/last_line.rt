@@ -31,8 +31,8 @@ pub struct LastLine {
 }
 
 impl Model for LastLine {
-    ghost use Rattle.std.specs.Prelude.{Option, string_bytes};
     ghost use Rattle.line_segmenter.specs.Segmenters.{SegmentedLine};
+    ghost use Rattle.std.specs.Prelude.{Option, string_bytes};
 
     ghost Value = { Option SegmentedLine };
 

@@ -1,7 +1,7 @@
 //! The segmenter: dictionaries, a format and the buffers of the search.
 
 ghost use Rattle.std.specs.Prelude.{◌≡◌, ◌≤◌, [], None, IfOk, IfErr, OnOk, OnErr};
-ghost use Rattle.line_segmenter.specs.Segmenters.{IsLoaded, IsNew, with_user};
+ghost use Rattle.line_segmenter.specs.Segmenters.{FitTogether, IsLoaded, IsNew, with_added};
 ghost use Rattle.line_segmenter.specs.Faults.{IsSetFormatError, IsGroupingError, IsImage, IsLoadError, IsAddUserError, PassesTestsBeforeKeys};
 ghost use Rattle.line_segmenter.specs.declared.fault.SegmentFault.TheVariants.{Memory};
 ghost use Rattle.line_segmenter.specs.Trusted.{IsTrusted};
@@ -122,13 +122,9 @@ impl Segmenter {
     /// Loads the image of a user dictionary and adds it after the others. Fails with `Shared` if
     /// another segmenter shares the dictionaries. The last line is removed.
     pub fn add_user(&mut self, image: ImageBytes, digest: DigestTest) -> Result<(), SegmentFault>
-        ensures added { OnOk result (self.new ≡ record self.old {
-          images = with_user self.old.images image;
-          segmented = None;
-        }) }
+        ensures added { OnOk result (self.new ≡ with_added self.old image) }
         ensures accepted { OnOk result (IsImage digest image) }
-        ensures fits { OnOk result (fault_of_images self.new.images.system self.new.images.users
-            ≡ None) }
+        ensures fits { OnOk result (FitTogether self.new.images) }
         ensures rejected { IfErr result (IsAddUserError digest self.old.images image) }
         ensures out_of_memory { IfErr result
             (λ fault. fault ≡ Memory → PassesTestsBeforeKeys digest image) }
@@ -146,13 +142,9 @@ impl Segmenter {
     /// the image.
     pub fn add_trusted_user(&mut self, image: ImageBytes) -> Result<(), SegmentFault>
         requires { IsTrusted image }
-        ensures added { OnOk result (self.new ≡ record self.old {
-          images = with_user self.old.images image;
-          segmented = None;
-        }) }
+        ensures added { OnOk result (self.new ≡ with_added self.old image) }
         ensures accepted { OnOk result (IsImage Made image) }
-        ensures fits { OnOk result (fault_of_images self.new.images.system self.new.images.users
-            ≡ None) }
+        ensures fits { OnOk result (FitTogether self.new.images) }
         ensures rejected { IfErr result (IsAddUserError Made self.old.images image) }
         ensures unchanged { OnErr result (self.new ≡ self.old) }
     {

@@ -1,7 +1,7 @@
 //! Segments and prints the lines of a text.
 
 ghost use Rattle.std.specs.Prelude.{◌≡◌, None, IfOk, IfErr};
-ghost use Rattle.line_segmenter.specs.TextLines.{ParsesLines, StopsFor};
+ghost use Rattle.line_segmenter.specs.TextLines.{AppendsLines, AppendsUpTo};
 ghost use Rattle.line_segmenter.specs.Segmenters.{overlay_of_state};
 ghost use Rattle.mj_model.specs.Lists.{GrowsBy};
 ghost use Rattle.mj_model.specs.Output.{text_lines};
@@ -30,11 +30,8 @@ impl Segmenter {
         // for each line the formatted words of its best path.
         ensures ok { IfOk result (λ _. GrowsBy (IsSegmentation (overlay_of_state self.old)
             self.old.format (text_lines text.now)) out.old.items out.new.items) }
-        ensures printed { IfOk result (λ lines.
-            GrowsBy (ParsesLines self.old text.now lines) out.old.items out.new.items) }
-        ensures stopped { IfErr result (λ stopped.
-            GrowsBy (StopsFor self.old text.now stopped.line stopped.fault)
-            out.old.items out.new.items) }
+        ensures printed { IfOk result (AppendsLines self.old text.now out.old.items out.new.items) }
+        ensures stopped { IfErr result (AppendsUpTo self.old text.now out.old.items out.new.items) }
         ensures cleared { self.new ≡ record self.old { segmented = None } }
     {
         self.print_lines(text, out)
@@ -43,11 +40,8 @@ impl Segmenter {
     /// Appends the output of the lines of `text` up to the first error. Returns what `parse_lines`
     /// returns.
     fn print_lines(&mut self, text: &[u8], out: &mut Vec<u8>) -> Result<u64, LinesFault>
-        ensures printed { IfOk result (λ lines.
-            GrowsBy (ParsesLines self.old text.now lines) out.old.items out.new.items) }
-        ensures stopped { IfErr result (λ stopped.
-            GrowsBy (StopsFor self.old text.now stopped.line stopped.fault)
-            out.old.items out.new.items) }
+        ensures printed { IfOk result (AppendsLines self.old text.now out.old.items out.new.items) }
+        ensures stopped { IfErr result (AppendsUpTo self.old text.now out.old.items out.new.items) }
         ensures cleared { self.new ≡ record self.old { segmented = None } }
     {
         let printer = WordsPrinter {
