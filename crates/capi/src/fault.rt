@@ -5,17 +5,17 @@ ghost use Rattle.capi.specs.CallWords.{call_words};
 use line_segmenter::SegmentFault;
 use mj_model::NamedFault;
 
-/// The error of a call from C: an error of the segmenter, or of a handle or buffer that C passed.
+/// The error of a call from C: an error of a handle or buffer that C passed, or of the segmenter.
 #[derive(Clone, Copy, Debug, PartialEq, Eq, Drop)]
 pub enum CallFault {
-    /// The segmenter returned an error.
-    Segment(SegmentFault),
     /// The handle is empty.
     EmptySegmenter,
     /// The handle is not empty.
     FullSegmenter,
     /// The output does not fit into the buffer.
     ShortBuffer,
+    /// The segmenter returned an error.
+    Segment(SegmentFault),
 }
 
 impl NamedFault for CallFault {
