@@ -39,7 +39,7 @@ where
 }
 
 /// Runs a command that was parsed, or reports the error in the command line. Returns the exit
-/// status.
+/// status: 0, or that of the error, which is reported.
 fn run_parsed<O: Drop, E: Termination + Drop, W, S>(
     rt: &HostRuntime,
     program: &str,
@@ -54,33 +54,16 @@ where
     requires print_hints { S.IsAlwaysCallable print_hints }
     ensures { IsCommandStatus E.status (W.post work rt.entry) parsed (exit_status result) }
 {
-    match parsed {
-        Ok(command) => ExitCode::from(run(rt, program, &command, work, print_hints)),
-        Err(fault) => ExitCode::from(print_options_error(rt, program, &fault)),
-    }
-}
-
-/// Runs a command with `work`. Returns the exit status: 0, or that of the error, which is reported.
-fn run<O, E: Termination + Drop, W, S>(
-    rt: &HostRuntime,
-    program: &str,
-    command: &O,
-    work: W,
-    print_hints: S,
-) -> u8
-where
-    W: Fn(&HostRuntime, &O) -> Result<(), E> + Drop,
-    S: Fn(&HostRuntime, &O, &E) + Drop,
-    requires work { W.IsAlwaysCallable work }
-    requires print_hints { S.IsAlwaysCallable print_hints }
-    ensures { IsCommandStatus E.status (W.post work rt.entry) (Ok command.now) result }
-{
-    match work(rt, command) {
-        Ok(()) => 0,
+    let command = match parsed {
+        Ok(command) => command,
+        Err(fault) => return ExitCode::from(print_options_error(rt, program, &fault)),
+    };
+    match work(rt, &command) {
+        Ok(()) => ExitCode::from(0),
         Err(error) => {
             let status = error.print(rt, program);
-            print_hints(rt, command, &error);
-            status
+            print_hints(rt, &command, &error);
+            ExitCode::from(status)
         }
     }
 }
