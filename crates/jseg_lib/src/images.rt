@@ -40,8 +40,8 @@ pub fn segment_by_images<L, R: Read + Drop, W: TextOut>(
 ) -> Result<u64, Fault>
 where
     L: Fn(&str, DigestTest) -> Result<Dict, Fault> + Drop,
-    requires load { L.IsAlwaysCallable load }
     requires counts { MayBeWritten (W.state writer.old) }
+    requires load { L.IsAlwaysCallable load }
     // If the result is Ok, each dictionary is the result of `load` for its path, and all of the
     // text was printed with these dictionaries.
     ensures ok { IfOk result (IsPrintedByImages (L.post load) images.now.digest
@@ -89,7 +89,7 @@ fn segment_text<R: Read + Drop, W: TextOut>(
     match requested_dictionaries(system, overlays, settings.grouping) {
         Ok(dictionaries) => {
             let printed = &settings.printed;
-            run_result(segment_over(alloc, &dictionaries, printed, &mut reader, writer))
+            run_result(segment_over(alloc, printed, &dictionaries, &mut reader, writer))
         }
         Err(fault) => Err(overlay_fault(alloc, images.dic, images.users, fault)),
     }

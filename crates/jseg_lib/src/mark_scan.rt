@@ -30,16 +30,7 @@ impl MarkScan {
         }
     }
 
-    fn after_bytes(self, piece: &[u8]) -> MarkScan
-        ensures { (rest : List ℕ) → mark_from self (piece.now ++ rest) ≡ mark_from result rest }
-    {
-        let mut scan = self;
-        for byte in piece {
-            scan = scan.after_byte(*byte);
-        }
-        scan
-    }
-
+    /// Returns the state after the next byte of the text.
     fn after_byte(self, byte: u8) -> MarkScan
         ensures { (rest : List ℕ) → mark_from self (byte ∷ rest) ≡ mark_from result rest }
     {
@@ -49,6 +40,17 @@ impl MarkScan {
             (MarkScan::TwoBytes, 0xBF) | (MarkScan::Present, _) => MarkScan::Present,
             _ => MarkScan::Absent,
         }
+    }
+
+    /// Returns the state after the next bytes, byte by byte.
+    fn after_bytes(self, piece: &[u8]) -> MarkScan
+        ensures { (rest : List ℕ) → mark_from self (piece.now ++ rest) ≡ mark_from result rest }
+    {
+        let mut scan = self;
+        for byte in piece {
+            scan = scan.after_byte(*byte);
+        }
+        scan
     }
 
     /// Returns whether a text that ends here begins with a mark.

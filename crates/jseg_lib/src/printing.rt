@@ -44,8 +44,8 @@ pub(crate) fn requested_dictionaries<'a>(
 /// the number of lines.
 pub(crate) fn segment_over<R: TextIn, W: TextOut>(
     alloc: Global,
-    dictionaries: &Dictionaries<'_>,
     printed: &OutputForm,
+    dictionaries: &Dictionaries<'_>,
     reader: &mut R,
     writer: &mut W,
 ) -> Result<u64, RunFault>

@@ -93,7 +93,7 @@ where
             };
             segment_by_images(rt, &images, load, &settings, text, writer)
         }
-        Input::Sources(dir) => segment_by_directory(rt, dir.as_str(), &settings, text, writer),
+        Input::Sources(dir) => segment_by_directory(rt, &settings, dir.as_str(), text, writer),
         Input::Sample => segment_by_sample(rt, &settings, text, writer),
     }
 }
@@ -101,8 +101,8 @@ where
 /// Segments `text` with the dictionary compiled from the source directory `dir`.
 fn segment_by_directory<R: Read + Drop, W: TextOut>(
     rt: &HostRuntime,
-    dir: &str,
     settings: &SegmentSettings<'_>,
+    dir: &str,
     text: R,
     writer: &mut W,
 ) -> Result<u64, Fault>

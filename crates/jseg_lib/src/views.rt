@@ -1,6 +1,8 @@
 //! Printing views of lines in place of the words of their best paths.
 
 ghost use Rattle.std.specs.Prelude.{◌≡◌, ℕ, ◌≤◌, ◌⊎◌, Err};
+ghost use Rattle.jseg_lib.specs.Printing.{RunAsRequested};
+ghost use Rattle.jseg_lib.specs.Views.{ViewLineResult};
 ghost use Rattle.dict_compile.specs.Compilation.{IsCompilationCause, IsCompilationFault};
 ghost use Rattle.line_stream.specs.GoodRuns.{IsOkOrMemory, NothingFails};
 ghost use Rattle.line_stream.specs.Runs.{MayRun, RunOutcome};
@@ -12,8 +14,6 @@ ghost use Rattle.mj_model.specs.PathLaws.{CoversTexts};
 ghost use Rattle.segmenter.specs.SourceDicts.{IsRejectedFor};
 ghost use Rattle.segmenter.specs.SourceRuns.{EndedBeforeReading};
 ghost use Rattle.word_lookup.specs.Overlays.{overlay_of};
-ghost use Rattle.jseg_lib.specs.Printing.{RunAsRequested};
-ghost use Rattle.jseg_lib.specs.Views.{ViewLineResult};
 ghost use Rattle.jseg_lib.specs.declared.formatting.OutputForm.TheVariants.{View as OfView};
 
 use lattice_view::lattice_printer::{LatticeBuffers, LatticeFormat, LatticePrinter};
@@ -99,14 +99,14 @@ pub fn print_source_views<R: TextIn, W: TextOut>(
     ensures no_user { (i : ℕ) (fault : FaultOf) → result ≡ Err (UserSource i fault) → ⊥ }
     ensures before_reading { EndedBeforeReading result
         → (reader.new ≡ reader.old) × (writer.new ≡ writer.old) }
-    // Every other run used the dictionary of the sources.
-    ensures run { EndedBeforeReading result ⊎ RunAsRequested sources.now grouping (OfView view)
-        (R.state reader.old) (R.state reader.new) (W.state writer.old) (W.state writer.new) result }
     // If each line is valid, no call fails and the reader ends within the bound, the result is Ok
     // or Memory, unless the run ended before reading.
     ensures succeeds { NothingFails ReadsMax (R.state reader.old) (R.state reader.new)
         (W.state writer.old) (W.state writer.new)
         → IsOkOrMemory result ⊎ EndedBeforeReading result }
+    // Every other run used the dictionary of the sources.
+    ensures run { EndedBeforeReading result ⊎ RunAsRequested sources.now grouping (OfView view)
+        (R.state reader.old) (R.state reader.new) (W.state writer.old) (W.state writer.new) result }
 {
     let system = match system_dict(alloc, sources) {
         Ok(system) => system,
