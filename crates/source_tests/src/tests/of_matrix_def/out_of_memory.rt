@@ -3,7 +3,10 @@
 //! Allocations fail under `tests/out_of_memory/run.py`, which expects the line `rejected` on
 //! standard error.
 use super::{matrix_of, matrix_of_halves};
+use crate::tests::faults::Read;
+use matrix_def::Matrix;
 use mj_model::SourceKind::{self, BadHeader, BadRow, PairOutside, TooLarge};
+use std::process::Abort;
 use std::test::Fail;
 
 /// A label, a `matrix.def`, the line of its error and the kind of the error.
@@ -59,22 +62,25 @@ static ACCEPTED: [(&str, &[u8], &[i16]); 3] = [
     ("a pair twice", b"2 2\n0 0 0\n0 1 10\n1 0 5\n1 1 7\n0 0 -434\n",   &[-434, 10, 5, 7]),
 ];
 
-#[test]
-fn matrix_out_of_memory(rt: HostRuntime) -> Result<(), Fail> {
+/// Checks the costs of the accepted matrices, which `read` reads.
+fn expect_costs<F: Fn(&[u8]) -> Read<Matrix> + Drop>(rt: &impl Abort, read: F) -> Result<(), Fail>
+    requires { F.IsAlwaysCallable read }
+{
     for (what, bytes, costs) in &ACCEPTED {
-        let matrix = matrix_of(&rt, bytes)??;
+        let matrix = read(bytes)??;
         assert_eq!(rt; matrix.costs(), *costs, "{what}");
     }
     Ok(())
 }
 
 #[test]
+fn matrix_out_of_memory(rt: HostRuntime) -> Result<(), Fail> {
+    expect_costs(&rt, |bytes| matrix_of(&rt, bytes))
+}
+
+#[test]
 fn matrix_in_halves_out_of_memory(rt: HostRuntime) -> Result<(), Fail> {
-    for (what, bytes, costs) in &ACCEPTED {
-        let matrix = matrix_of_halves(&rt, bytes)??;
-        assert_eq!(rt; matrix.costs(), *costs, "{what}");
-    }
-    Ok(())
+    expect_costs(&rt, |bytes| matrix_of_halves(&rt, bytes))
 }
 
 #[test]

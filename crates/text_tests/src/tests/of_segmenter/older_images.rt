@@ -138,6 +138,14 @@ const LETTERS_25: &str = "zzzzzzzzzzzzzzzzzzzzzzzzz";
 
 const LETTERS_26: &str = "zzzzzzzzzzzzzzzzzzzzzzzzzz";
 
+/// The output of `LETTERS_26`: a word of one letter, and one of the others.
+const THEN_25: &str = "z\t未知\nzzzzzzzzzzzzzzzzzzzzzzzzz\t未知\nEOS\n";
+
+/// The highest characters, and their output: one word.
+const HIGH: &str = "\u{fffe}\u{ffff}\u{10ffff}";
+
+const AS_ONE: &str = "\u{fffe}\u{ffff}\u{10ffff}\t未知\nEOS\n";
+
 /// A line of `char.def`, a lexicon, its surfaces, and a text with its label and its output in the
 /// default format.
 type DictRow<'a> = (&'a str, &'a str, &'a [&'a str], TextRow<'a>);
@@ -156,12 +164,6 @@ fn expect_the_same_of_all(
 }
 
 const TWO: &str = "すもも\t名詞,すもも\nもも\t名詞,もも\nEOS\n";
-
-const HIGH: &str = "\u{fffe}\u{ffff}\u{10ffff}";
-
-const AS_ONE: &str = "\u{fffe}\u{ffff}\u{10ffff}\t未知\nEOS\n";
-
-const THEN_25: &str = "z\t未知\nzzzzzzzzzzzzzzzzzzzzzzzzz\t未知\nEOS\n";
 
 #[rattlefmt::skip]
 static TEXTS_OF_THE_SAMPLE: [TextRow<'static>; 11] = [
