@@ -24,6 +24,7 @@ pub mod InfoLemmas
 pub mod InfoTableLemmas
 pub mod FormedLemmas
 pub mod RowLemmas
+pub mod TailLemmas
 pub mod SetLemmas
 pub mod ColumnLemmas
 pub mod NumberedIdLemmas

@@ -1,47 +1,25 @@
--- Costs in rows of one width: they are copied row by row, and a row is a part of them.
-use Rattle.std.proofs.Common.{◌≡◌, ℕ, ℤ, pos, ◌+◌, ◌-◌, ◌*◌, ◌<◌, ◌≤◌, ◌++◌, ◌∷◌, [], Some, List, length, drop, inl, inr, slice_get, slice_range, sym, ap, ◌∙◌, arith, subst}
+-- Costs in rows of one width: rows are appended to them, and each row is a part of them.
+use Rattle.std.proofs.Common.{◌≡◌, ℕ, ℤ, pos, ◌+◌, ◌-◌, ◌*◌, ◌<◌, ◌≤◌, ◌++◌, Some, List, length, drop, inl, inr, slice_get, slice_range, sym, ap, ◌∙◌, arith, subst}
 use Rattle.std.proofs.Math.Nat.{add-mul, mul-le-mul_right, one-mul}
 use Rattle.std.proofs.Math.ListN.{length-append}
-use Rattle.std.proofs.Math.Seq.{get_or-append_seam}
 use Rattle.std.proofs.lemmas.Bool.{cases_lt}
-use Rattle.std.proofs.lemmas.List.{get_or-drop, get_or-take, get_or_append_left, length-drop, length-take}
+use Rattle.std.proofs.lemmas.List.{get_or-drop, get_or-take, get_or-append-add, get_or_append_left, length-drop, length-take}
 use Rattle.std.proofs.lemmas.Option.{slice_get-get_or}
-use Rattle.dict_image.specs.Rows.{AreRows, GrowsByRow}
+use Rattle.dict_image.specs.Rows.{AreRows}
 
--- ---- a cost more
+-- ---- lists that are appended
 
-longer : (xs : List ℤ) (x : ℤ) → length (xs ++ x ∷ []) ≡ length xs + 1
-longer xs x = length-append xs (x ∷ [])
+in_left : (xs ys : List ℤ) (i : ℕ) → i < length xs → slice_get (xs ++ ys) i ≡ slice_get xs i
+in_left xs ys i within =
+    let long = length-append xs ys in
+    slice_get-get_or (xs ++ ys) i (pos 0) (omega (arith, within, long)) ∙ ap Some (get_or_append_left xs ys (pos 0) i within) ∙ sym (slice_get-get_or xs i (pos 0) within)
 
-kept_before : (xs : List ℤ) (x : ℤ) (i : ℕ) → i < length xs → slice_get (xs ++ x ∷ []) i ≡ slice_get xs i
-kept_before xs x i within =
-    let more = longer xs x in
-    slice_get-get_or (xs ++ x ∷ []) i (pos 0) (omega (arith, within, more)) ∙ ap Some (get_or_append_left xs (x ∷ []) (pos 0) i within) ∙ sym (slice_get-get_or xs i (pos 0) within)
+in_right : (xs ys : List ℤ) (i : ℕ) → i < length ys → slice_get (xs ++ ys) (length xs + i) ≡ slice_get ys i
+in_right xs ys i within =
+    let long = length-append xs ys in
+    slice_get-get_or (xs ++ ys) (length xs + i) (pos 0) (omega (arith, within, long)) ∙ ap Some (get_or-append-add xs ys i (pos 0)) ∙ sym (slice_get-get_or ys i (pos 0) within)
 
-last_is : (xs : List ℤ) (x : ℤ) → slice_get (xs ++ x ∷ []) (length xs) ≡ Some x
-last_is xs x =
-    let more = longer xs x in
-    slice_get-get_or (xs ++ x ∷ []) (length xs) (pos 0) (omega (arith, more)) ∙ ap Some (get_or-append_seam xs x [] (pos 0))
-
-pub cost_more : (cost : ℕ → ℤ) (count : ℕ) (old rows : List ℤ) → GrowsByRow cost count old rows → GrowsByRow cost (count + 1) old (rows ++ cost count ∷ [])
-cost_more cost count old rows grown =
-    let x = cost count in
-    let had = grown.many in
-    let more = longer rows x in
-    record {
-      many = omega (arith, had, more);
-      kept = λ i within. kept_before rows x i (omega (arith, within, had)) ∙ grown.kept i within;
-      each = λ column within. elim (cases_lt column count) [
-        | inl earlier ↦ kept_before rows x (length old + column) (omega (arith, earlier, had)) ∙ grown.each column earlier
-        | inr later ↦
-            let is : column ≡ count = omega (arith, later, within) in
-            let at : length rows ≡ length old + column = omega (arith, is, had) in
-            subst (λ (c : ℕ). slice_get (rows ++ x ∷ []) (length old + column) ≡ Some (cost c)) (sym is)
-            (subst (λ (i : ℕ). slice_get (rows ++ x ∷ []) i ≡ Some x) at (last_is rows x))
-      ];
-    }
-
--- ---- a row more
+-- ---- rows that are appended
 
 pub next_row : (row width : ℕ) → (row + 1) * width ≡ row * width + width
 next_row row width = add-mul row 1 width ∙ ap (λ (n : ℕ). row * width + n) (one-mul width)
@@ -53,20 +31,36 @@ in_rows row end width column before within =
     let next = next_row row width in
     omega (arith, up, next, within)
 
-pub row_more : (cost : ℕ → ℕ → ℤ) (width end : ℕ) (old rows : List ℤ) → AreRows cost width end old → GrowsByRow (cost end) width old rows → AreRows cost width (end + 1) rows
-row_more cost width end old rows are grown =
+-- the costs of the rows from `first` on
+abbrev pub later_cost : (ℕ → ℕ → ℤ) → ℕ → ℕ → ℕ → ℤ
+later_cost cost first row column = cost (first + row) column
+
+later_row : (cost : ℕ → ℕ → ℤ) (width first count : ℕ) (old block : List ℤ) → length old ≡ first * width → AreRows (later_cost cost first) width count block
+    → (row column : ℕ) → row < count → column < width → slice_get (old ++ block) ((first + row) * width + column) ≡ Some (cost (first + row) column)
+later_row cost width first count old block had more row column before within =
+    let added = more.many in
+    let there = in_rows row count width column before within in
+    let inside : row * width + column < length block = omega (arith, there, added) in
+    let split = add-mul first row width in
+    let at : length old + (row * width + column) ≡ (first + row) * width + column = omega (arith, had, split) in
+    subst (λ (i : ℕ). slice_get (old ++ block) i ≡ Some (cost (first + row) column)) at
+    (in_right old block (row * width + column) inside ∙ more.each row column before within)
+
+pub rows_more : (cost : ℕ → ℕ → ℤ) (width first count : ℕ) (old block : List ℤ) → AreRows cost width first old → AreRows (later_cost cost first) width count block
+    → AreRows cost width (first + count) (old ++ block)
+rows_more cost width first count old block are more =
     let had = are.many in
-    let more = grown.many in
-    let next = next_row end width in
+    let added = more.many in
+    let long = length-append old block in
+    let split = add-mul first count width in
     record {
-      many = omega (arith, had, more, next);
-      each = λ row column before within. elim (cases_lt row end) [
-        | inl earlier ↦ grown.kept (row * width + column) (subst (λ (n : ℕ). row * width + column < n) (sym had) (in_rows row end width column earlier within)) ∙ are.each row column earlier within
+      many = omega (arith, had, added, long, split);
+      each = λ row column before within. elim (cases_lt row first) [
+        | inl earlier ↦ in_left old block (row * width + column) (subst (λ (n : ℕ). row * width + column < n) (sym had) (in_rows row first width column earlier within)) ∙ are.each row column earlier within
         | inr later ↦
-            let is : row ≡ end = omega (arith, later, before) in
-            let at : length old + column ≡ row * width + column = ap (λ (n : ℕ). n + column) (had ∙ ap (λ (k : ℕ). k * width) (sym is)) in
-            subst (λ (k : ℕ). slice_get rows (row * width + column) ≡ Some (cost k column)) (sym is)
-            (subst (λ (i : ℕ). slice_get rows i ≡ Some (cost end column)) at (grown.each column within))
+            let is : first + (row - first) ≡ row = omega (arith, later) in
+            subst (λ (r : ℕ). slice_get (old ++ block) (r * width + column) ≡ Some (cost r column)) is
+            (later_row cost width first count old block had more (row - first) column (omega (arith, later, before)) within)
       ];
     }
 

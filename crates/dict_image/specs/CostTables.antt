@@ -1,5 +1,5 @@
 -- The table of connection costs.
-use Rattle.std.specs.Prelude.{◌≡◌, ℕ, ℤ, ◌*◌, ◌&&◌, Bool, List, nat_le, not}
+use Rattle.std.specs.Prelude.{◌≡◌, ℕ, ℤ, ◌+◌, ◌*◌, ◌&&◌, Bool, List, nat_le, not}
 use Rattle.mj_model.specs.declared.matrix_sizes.MatrixSizes.{MatrixSizes}
 use Rattle.mj_model.specs.Overlays.{is_user}
 use Rattle.mj_model.specs.Tables.{Kind, System, Tables}
@@ -21,6 +21,10 @@ is_large_matrix t = not (is_user t.kind) && not (are_few_pairs t.sizes)
 -- the cost between a left id and a right id, with the left id first
 abbrev pub cost_before : MatrixSizes → List ℕ → ℕ → ℕ → ℤ
 cost_before sizes costs left right = stored_cost sizes costs right left
+
+-- the cost between the left id of a row and a right id, if row 0 has left id `first`
+abbrev pub cost_from : MatrixSizes → List ℕ → ℕ → ℕ → ℕ → ℤ
+cost_from sizes costs first row right = cost_before sizes costs (first + row) right
 
 -- rows for the left ids before `end`, each with the costs of all right ids
 abbrev pub AreRowsTo : MatrixSizes → List ℕ → ℕ → List ℤ → Type 0

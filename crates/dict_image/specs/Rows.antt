@@ -5,9 +5,3 @@ use Rattle.std.specs.Prelude.{◌≡◌, ℕ, ℤ, ◌+◌, ◌*◌, ◌<◌, So
 pub record AreRows (cost : ℕ → ℕ → ℤ) (width end : ℕ) (rows : List ℤ) : Type 0 where
   pub many : length rows ≡ end * width
   pub each : (row column : ℕ) → row < end → column < width → slice_get rows (row * width + column) ≡ Some (cost row column)
-
--- `count` costs were appended to the rows
-pub record GrowsByRow (cost : ℕ → ℤ) (count : ℕ) (old new : List ℤ) : Type 0 where
-  pub many : length new ≡ length old + count
-  pub kept : (i : ℕ) → i < length old → slice_get new i ≡ slice_get old i
-  pub each : (column : ℕ) → column < count → slice_get new (length old + column) ≡ Some (cost column)
