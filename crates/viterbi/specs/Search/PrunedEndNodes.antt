@@ -4,6 +4,7 @@ use Rattle.std.specs.Prelude.{◌≡◌, ℕ, ◌<ℤ◌, ◌≤ℤ◌, ◌<◌,
 use Rattle.viterbi.specs.Search.Nodes.{Node}
 use Rattle.viterbi.specs.Search.EndNodes.{AreEndNodes}
 use Rattle.viterbi.specs.declared.search.node.EndNode.{EndNode}
+use Rattle.viterbi.specs.declared.search.predecessor.TheConstants.{LINEAR_SCAN_MAX}
 
 -- end node e replaces x: it has the same right id, and costs less, or as much with no higher rank
 pub record Supersedes (rank : ℕ) (e : EndNode) (other : ℕ) (x : EndNode) : Type 0 where
@@ -21,13 +22,9 @@ pub record ArePrunedFrom (all ends : List EndNode) : Type 0 where
 abbrev pub HaveDistinctRightIds : List EndNode → Type 0
 HaveDistinctRightIds ends = (a b : ℕ) (x y : EndNode) → slice_get ends a ≡ Some x → slice_get ends b ≡ Some y → x.right ≡ y.right → a ≡ b
 
--- up to this many end nodes, a linear scan is faster than the cache
-abbrev pub linear_scan_max : ℕ
-linear_scan_max = 16
-
 -- the end nodes are few, or no more than there are right ids
 abbrev pub ArePruned : List EndNode → Type 0
-ArePruned ends = (length ends ≤ linear_scan_max) ⊎ HaveDistinctRightIds ends
+ArePruned ends = (length ends ≤ LINEAR_SCAN_MAX) ⊎ HaveDistinctRightIds ends
 
 -- the end nodes of a position that are left after pruning
 pub record AreBestEndNodes (nodes : List Node) (place : ℕ) (ends : List EndNode) : Type 0 where
