@@ -19,7 +19,10 @@ pub record AreWords (words : ℕ → List Word) (len : ℕ) : Type 0 where
   pub within : (p : ℕ) (w : Word) → Contains (words p) w → w.end ≤ len
   pub distinct : (p i j : ℕ) (w : Word) → slice_get (words p) i ≡ Some w → slice_get (words p) j ≡ Some w → i ≡ j
 
--- the words of a text of `len` bytes and the connection costs, with all costs of 16 bits
+-- The words of a text of `len` bytes and the connection costs, with all costs of 16 bits.
+-- `connections` holds for all numbers, not only for pairs of ids: the connection cost of a
+-- dictionary (`image_cost` of image_format) is 0 outside of the table, and `fitting_tables` of
+-- dict_image proves the bound from this definition.
 pub record IsSource (words : ℕ → List Word) (conn : ℕ → ℕ → ℤ) (len : ℕ) : Type 0 where
   pub are : AreWords words len
   pub costs : (p : ℕ) (w : Word) → Contains (words p) w → IsWithin (2 ^ 15) w.cost
