@@ -23,7 +23,11 @@ typedef struct dictionary dictionary;
 
 /* The state of the module in one interpreter. Each object that has its address holds the module,
    because the garbage collector may clear the types of an object before the object. */
-enum { HELD = 7 };
+enum { HELD = 10, KEPT = 4096 };
+typedef struct kept {
+    unsigned __int128 key;
+    PyObject *text;
+} kept;
 typedef struct core_state {
     PyObject *module; /* borrowed */
     union {
@@ -33,9 +37,11 @@ typedef struct core_state {
             PyObject *words;    /* the class of lists of words */
             PyObject *error_of; /* returns the exception of an error of the library */
             PyObject *names_of; /* returns the numbers of the fields by their names */
+            PyObject *surface, *feature, *total; /* names of attributes, which are interned */
         };
     };
     struct dictionary *opened; /* all Dictionary objects, in a list */
+    kept kept[KEPT];           /* each surface in a slot that its key decides */
 } core_state;
 
 /* Returns the state by a type of this module or by a subclass of one. */
@@ -67,7 +73,6 @@ typedef struct utf8 {
 /* Encodes a text, which must be a str. A surrogate that has no other half is replaced by U+FFFD,
    or raises an error if `is_strict`. Returns whether it succeeded. */
 bool encode(core_state *state, PyObject *text, bool is_strict, utf8 *to);
-void free_utf8(utf8 *text);
 
 /* Returns the number of characters that start in these bytes of UTF-8. */
 Py_ssize_t characters_in(const char *bytes, size_t length);
@@ -94,11 +99,8 @@ typedef struct entry {
     bool is_known;
 } entry;
 
-/* Returns the entry of a word. It is borrowed until the next call. `text` is what the offsets of
-   the word count from. NULL is an error. */
-entry *entry_of(dictionary *of, kumquatsieve_segmenter *native, const kumquatsieve_word *word,
-                const char *text, bool is_plain);
-entry *hold_entry(entry *held);
+/* Returns the entry of a word, borrowed until the next call. NULL is an error. */
+entry *entry_of(dictionary *of, kumquatsieve_segmenter *native, const kumquatsieve_word *word);
 void release_entry(entry *held);
 void free_entries(entry **all);
 
@@ -121,8 +123,9 @@ struct dictionary {
     dictionary *next;
 };
 
-/* segmenter.c */
-enum { IDLE = 8 };
+/* segmenter.c. A native segmenter has the segmenter's format, or prints surfaces alone, each with a
+   line feed or with a blank after it. */
+enum { OWN_FORMAT, SURFACES, WAKATI, FORMATS, IDLE = 8 };
 
 typedef struct segmenter {
     PyObject head;
@@ -131,8 +134,8 @@ typedef struct segmenter {
     PyObject *format;       /* four items, bytes or None */
     unsigned grouping;
     bool is_strict;
-    int idle_count;
-    kumquatsieve_segmenter idle[IDLE];
+    int idle_count[FORMATS];
+    kumquatsieve_segmenter idle[FORMATS][IDLE]; /* those that no call has, by their formats */
 } segmenter;
 
 /* A call over a text. */
@@ -141,28 +144,34 @@ typedef struct call {
     core_state *state;
     dictionary *dictionary;
     kumquatsieve_segmenter native;
+    int format; /* of `native` */
     PyObject *text;
     utf8 utf8;
-    size_t byte;          /* up to which characters were counted */
-    Py_ssize_t character; /* their number */
-    size_t longest;       /* bytes of the longest part that was segmented */
-    size_t unchecked;     /* bytes that were segmented since signals were looked for */
+    size_t byte;             /* up to which characters were counted */
+    Py_ssize_t character;    /* their number */
+    size_t longest;          /* bytes of the longest part that was segmented */
+    size_t unchecked;        /* bytes that were segmented since signals were looked for */
+    PyThreadState *released; /* if the lock of Python is released */
 } call;
 
-/* Starts a call over a str, or over bytes of UTF-8 if it `takes_bytes`. Takes a native segmenter.
-   Returns whether it succeeded. */
-bool start_call(call *of, PyObject *self, PyObject *text, bool takes_bytes);
+/* Starts a call over a str, or over bytes of UTF-8 if it `takes_bytes`. Takes a native segmenter of
+   a format. Returns whether it succeeded. */
+bool start_call(call *of, PyObject *self, PyObject *text, bool takes_bytes, int format);
 
 /* Gives back what a call has. */
 void end_call(call *of);
 
+/* Looks for signals if that is due after so many more bytes, so that Ctrl-C ends a call over a long
+   text. Returns false if a handler raised an exception. */
+bool check_signals(call *of, size_t bytes);
+
 /* segmenting.c. Segments the part of a line that starts at byte `at` of the line, from which its
    offsets count. A line of at most LONGEST_LINE bytes is one part. Uses nothing of Python. */
-uint32_t segment_native(kumquatsieve_segmenter *native, const utf8 *text, const line_bounds *bounds,
-                        size_t at, kumquatsieve_line *line, kumquatsieve_error *error);
+uint32_t segment_native(call *of, const line_bounds *bounds, size_t at, kumquatsieve_line *line,
+                        kumquatsieve_error *error);
 
 /* Sets the attribute `total` of a list of words. Returns whether it succeeded. */
-bool set_total(PyObject *list, int64_t total);
+bool set_total(core_state *state, PyObject *list, int64_t total);
 
 /* The methods that other files have. */
 PyObject *call_segmenter(PyObject *self, PyObject *arguments, PyObject *keywords);

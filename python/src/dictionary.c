@@ -11,11 +11,6 @@ typedef struct images {
     size_t count;
 } images;
 
-static void free_images(images *of) {
-    PyMem_Free(of->names);
-    PyMem_Free(of->all);
-}
-
 static bool read_images(PyObject *tuple, int are_bytes, images *to) {
     to->count = (size_t)PyTuple_Size(tuple);
     to->names = PyMem_Calloc(to->count + 1, sizeof *to->names);
@@ -61,7 +56,8 @@ static kumquatsieve_dictionary *open_native(core_state *state, PyObject *tuple, 
             open_images(&native, &given, flags, are_bytes, &error);
         if (error.code != KUMQUATSIEVE_OK && !PyErr_Occurred()) raise_error(state, &error, -1);
     }
-    free_images(&given);
+    PyMem_Free(given.names);
+    PyMem_Free(given.all);
     return native;
 }
 

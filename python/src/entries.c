@@ -6,11 +6,6 @@
    of another key. */
 enum { SLOTS = 65536 };
 
-entry *hold_entry(entry *held) {
-    held->holders += 1;
-    return held;
-}
-
 void release_entry(entry *held) {
     if (held == NULL || --held->holders > 0) return;
     Py_XDECREF(held->surface);
@@ -55,8 +50,7 @@ static entry *new_entry(dictionary *of, kumquatsieve_segmenter *native,
     return made;
 }
 
-entry *entry_of(dictionary *of, kumquatsieve_segmenter *native, const kumquatsieve_word *word,
-                const char *text, bool is_plain) {
+entry *entry_of(dictionary *of, kumquatsieve_segmenter *native, const kumquatsieve_word *word) {
     uint64_t key = (uint64_t)word->dictionary << 32 | word->token;
     if (of->entries == NULL) of->entries = PyMem_Calloc(SLOTS, sizeof *of->entries);
     if (of->entries == NULL) return (entry *)PyErr_NoMemory();
@@ -67,10 +61,7 @@ entry *entry_of(dictionary *of, kumquatsieve_segmenter *native, const kumquatsie
         release_entry(*slot);
         *slot = found;
     }
-    if (found->surface == NULL && found->is_known && is_plain)
-        found->surface = PyUnicode_DecodeUTF8(text + word->start,
-                                              (Py_ssize_t)(word->end - word->start), "strict");
-    return found->surface == NULL && found->is_known && is_plain ? NULL : found;
+    return found;
 }
 
 /* Returns the fields of a feature in a list, by MeCab's quoting: blanks before a field are no part

@@ -20,8 +20,7 @@ static Py_ssize_t *character_numbers(const char *line, size_t length) {
 /* Returns a word or a node of a line whose characters are numbered. */
 static word *made_of(call *of, PyTypeObject *type, const kumquatsieve_word *from,
                      const Py_ssize_t *characters) {
-    const char *line = of->utf8.bytes;
-    entry *e = entry_of(of->dictionary, &of->native, from, line, of->utf8.is_plain);
+    entry *e = entry_of(of->dictionary, &of->native, from);
     if (e == NULL) return NULL;
     Py_ssize_t start = characters[from->start], end = characters[from->end];
     PyObject *surface = PyUnicode_Substring(of->text, start, end);
@@ -75,7 +74,7 @@ static bool segment_one(call *of, int64_t *total) {
         raise_error(of->state, &error, PyUnicode_GetLength(of->text));
         return false;
     }
-    if (segment_native(&of->native, &of->utf8, &bounds, 0, &line, &error) != KUMQUATSIEVE_OK) {
+    if (segment_native(of, &bounds, 0, &line, &error) != KUMQUATSIEVE_OK) {
         raise_error(of->state, &error, -1);
         return false;
     }
@@ -87,7 +86,7 @@ static bool segment_one(call *of, int64_t *total) {
 PyObject *lattice(PyObject *self, PyObject *text) {
     call of;
     int64_t total = 0;
-    if (!start_call(&of, self, text, false)) return NULL;
+    if (!start_call(&of, self, text, false, OWN_FORMAT)) return NULL;
     Py_ssize_t length = PyUnicode_GetLength(text) - (Py_ssize_t)of.utf8.length;
     PyObject *list = segment_one(&of, &total) ? list_of_nodes(&of, total) : NULL;
     PyObject *kind = list ? item_of("kumquatsieve._lattice", "Lattice") : NULL;
@@ -107,7 +106,7 @@ PyObject *lattice(PyObject *self, PyObject *text) {
 static PyObject *list_of_entries(call *of, const kumquatsieve_word *words, size_t count) {
     Py_ssize_t *characters = character_numbers(of->utf8.bytes, of->utf8.length);
     PyObject *list = characters ? PyObject_CallObject(of->state->words, NULL) : NULL;
-    if (list && !set_total(list, 0)) Py_CLEAR(list);
+    if (list && !set_total(of->state, list, 0)) Py_CLEAR(list);
     for (size_t at = 0; list && at < count; at++) {
         PyObject *made = (PyObject *)made_of(of, of->state->word, &words[at], characters);
         if (made == NULL || PyList_Append(list, made) < 0) Py_CLEAR(list);
@@ -152,6 +151,6 @@ PyObject *look_up(PyObject *object, PyObject *arguments, PyObject *keywords) {
     else
         raise_error(self->state, &error, -1);
     kumquatsieve_segmenter_close(&of.native);
-    free_utf8(&of.utf8);
+    Py_XDECREF(of.utf8.owner);
     return list;
 }

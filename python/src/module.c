@@ -139,8 +139,10 @@ static int fill_module(PyObject *module) {
     state->words = item_of("kumquatsieve._words", "Words");
     state->names_of = state->words ? item_of("kumquatsieve._words", "names_of") : NULL;
     state->error_of = state->names_of ? item_of("kumquatsieve._errors", "error_of") : NULL;
-    if (state->error_of == NULL) return -1;
-    state->dictionary = add_type(module, &dictionary_spec, NULL);
+    state->surface = PyUnicode_InternFromString("surface");
+    state->feature = PyUnicode_InternFromString("feature");
+    state->total = PyUnicode_InternFromString("total");
+    if (!PyErr_Occurred()) state->dictionary = add_type(module, &dictionary_spec, NULL);
     state->segmenter = state->dictionary ? add_type(module, &segmenter_spec, NULL) : NULL;
     state->word = state->segmenter ? add_type(module, &word_spec, NULL) : NULL;
     state->node = state->word ? add_type(module, &node_spec, state->word) : NULL;
@@ -157,6 +159,7 @@ static int visit(PyObject *module, visitproc visit, void *arg) {
 static int clear(PyObject *module) {
     core_state *state = PyModule_GetState(module);
     for (size_t at = 0; state && at < HELD; at++) Py_CLEAR(state->held[at]);
+    for (size_t at = 0; state && at < KEPT; at++) Py_CLEAR(state->kept[at].text);
     return 0;
 }
 

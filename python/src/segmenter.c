@@ -5,7 +5,7 @@
 
 /* A native segmenter that had a line of more bytes is closed, since it keeps the memory of its
    longest line. */
-enum { LONGEST_KEPT = 65536 };
+enum { LONGEST_KEPT = 65536, BYTES_BETWEEN_SIGNALS = 1 << 18 };
 
 /* Returns a text of the format, which has its UTF-8, or NULL for the default. */
 static const char *format_text(PyObject *format, Py_ssize_t number) {
@@ -21,50 +21,52 @@ static Py_ssize_t position_in(PyObject *format, const kumquatsieve_error *error)
     return text ? characters_in(text, error->position) : -1;
 }
 
-static bool open_native(segmenter *self, kumquatsieve_segmenter *native) {
+static bool open_native(segmenter *self, int format, kumquatsieve_segmenter *native) {
     kumquatsieve_error error;
-    PyObject *format = self->format;
+    PyObject *own = format == OWN_FORMAT ? self->format : NULL;
+    const char *node = own ? format_text(own, 0) : format == WAKATI ? "%m " : "%m\\n";
     *native = (kumquatsieve_segmenter)KUMQUATSIEVE_EMPTY;
     if (kumquatsieve_segmenter_open(native, self->dictionary->native, &error) == KUMQUATSIEVE_OK &&
         kumquatsieve_set_grouping(native, self->grouping, &error) == KUMQUATSIEVE_OK &&
-        kumquatsieve_set_format(native, format_text(format, 0), format_text(format, 1),
-                                format_text(format, 2), format_text(format, 3),
+        kumquatsieve_set_format(native, node, own ? format_text(own, 1) : NULL,
+                                own ? format_text(own, 2) : NULL, own ? format_text(own, 3) : "",
                                 &error) == KUMQUATSIEVE_OK)
         return true;
     kumquatsieve_segmenter_close(native);
-    raise_error(self->state, &error, position_in(format, &error));
+    raise_error(self->state, &error, position_in(self->format, &error));
     return false;
 }
 
-/* Takes an idle native segmenter, or opens one. */
-static bool take(segmenter *self, kumquatsieve_segmenter *native) {
+/* Takes an idle native segmenter of a format, or opens one. */
+static bool take(segmenter *self, int format, kumquatsieve_segmenter *native) {
     if (self->dictionary == NULL) {
         PyErr_SetString(PyExc_ValueError, "the segmenter is closed");
         return false;
     }
-    if (self->idle_count == 0) return open_native(self, native);
-    *native = self->idle[--self->idle_count];
+    if (self->idle_count[format] == 0) return open_native(self, format, native);
+    *native = self->idle[format][--self->idle_count[format]];
     return true;
 }
 
-static void give_back(segmenter *self, kumquatsieve_segmenter *native, size_t longest) {
-    if (self->dictionary == NULL || self->idle_count == IDLE || longest > LONGEST_KEPT)
+static void give_back(segmenter *self, int format, kumquatsieve_segmenter *native, size_t longest) {
+    int *count = &self->idle_count[format];
+    if (self->dictionary == NULL || *count == IDLE || longest > LONGEST_KEPT)
         kumquatsieve_segmenter_close(native);
     else
-        self->idle[self->idle_count++] = *native;
+        self->idle[format][(*count)++] = *native;
 }
 
-bool start_call(call *of, PyObject *object, PyObject *text, bool takes_bytes) {
+bool start_call(call *of, PyObject *object, PyObject *text, bool takes_bytes, int format) {
     segmenter *self = (segmenter *)object;
-    *of = (call){.self = self, .state = self->state, .text = text};
+    *of = (call){.self = self, .state = self->state, .format = format, .text = text};
     if (takes_bytes && PyBytes_Check(text)) {
         of->utf8 = (utf8){PyBytes_AsString(text), (size_t)PyBytes_Size(text), text, true};
         Py_INCREF(text);
     } else if (!encode(self->state, text, self->is_strict, &of->utf8)) {
         return false;
     }
-    if (!take(self, &of->native)) {
-        free_utf8(&of->utf8);
+    if (!take(self, format, &of->native)) {
+        Py_XDECREF(of->utf8.owner);
         return false;
     }
     of->dictionary = self->dictionary;
@@ -73,9 +75,19 @@ bool start_call(call *of, PyObject *object, PyObject *text, bool takes_bytes) {
 }
 
 void end_call(call *of) {
-    give_back(of->self, &of->native, of->longest);
-    free_utf8(&of->utf8);
+    give_back(of->self, of->format, &of->native, of->longest);
+    Py_XDECREF(of->utf8.owner);
     Py_DECREF(of->dictionary);
+}
+
+bool check_signals(call *of, size_t bytes) {
+    of->unchecked += bytes;
+    if (of->unchecked < BYTES_BETWEEN_SIGNALS) return true;
+    of->unchecked = 0;
+    if (of->released) PyEval_RestoreThread(of->released);
+    int code = PyErr_CheckSignals();
+    if (of->released) of->released = PyEval_SaveThread();
+    return code == 0;
 }
 
 /* Returns whether a format has four items, each a text without a zero byte, or None. */
@@ -116,8 +128,8 @@ static PyObject *new_segmenter(PyTypeObject *type, PyObject *arguments, PyObject
     self->grouping = grouping;
     self->is_strict = is_strict != 0;
     /* The first one is opened at once, since that tests the format and the grouping. */
-    if (take(self, &native))
-        give_back(self, &native, 0);
+    if (take(self, OWN_FORMAT, &native))
+        give_back(self, OWN_FORMAT, &native, 0);
     else
         Py_CLEAR(self);
     return (PyObject *)self;
@@ -127,7 +139,9 @@ static PyObject *new_segmenter(PyTypeObject *type, PyObject *arguments, PyObject
 static PyObject *close_segmenter(PyObject *object, PyObject *unused) {
     segmenter *self = (segmenter *)object;
     (void)unused;
-    while (self->idle_count > 0) kumquatsieve_segmenter_close(&self->idle[--self->idle_count]);
+    for (int format = 0; format < FORMATS; format++)
+        while (self->idle_count[format] > 0)
+            kumquatsieve_segmenter_close(&self->idle[format][--self->idle_count[format]]);
     Py_CLEAR(self->dictionary);
     Py_RETURN_NONE;
 }

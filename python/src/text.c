@@ -80,8 +80,6 @@ bool encode(core_state *state, PyObject *text, bool is_strict, utf8 *to) {
     return to->bytes || encode_surrogates(state, text, is_strict, to);
 }
 
-void free_utf8(utf8 *text) { Py_CLEAR(text->owner); }
-
 Py_ssize_t characters_in(const char *bytes, size_t length) {
     Py_ssize_t count = 0;
     for (size_t at = 0; at < length; at++) count += (bytes[at] & 0xc0) != 0x80;

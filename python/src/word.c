@@ -13,7 +13,8 @@ word *new_word(core_state *state, PyTypeObject *type, PyObject *surface, entry *
     }
     made->state = hold_state(state);
     made->surface = surface;
-    made->entry = hold_entry(of);
+    made->entry = of;
+    of->holders += 1;
     made->start = start;
     made->end = end;
     made->byte_start = line + from->start;
@@ -55,6 +56,11 @@ static PyObject *no_attribute(word *self, PyObject *name) {
 
 static PyObject *attribute(PyObject *self, PyObject *name) {
     word *of = (word *)self;
+    /* Most programs read these two. No field has their names. */
+    PyObject *text = name == of->state->surface ? of->surface : NULL;
+    if (name == of->state->feature) text = of->entry->feature;
+    Py_XINCREF(text);
+    if (text) return text;
     PyObject *number = PyDict_GetItemWithError(of->entry->names, name);
     if (number) return field_of(of->entry, PyLong_AsSsize_t(number));
     if (PyErr_Occurred()) return NULL;
