@@ -145,7 +145,7 @@ def test_a_timer_ends_a_call_over_a_long_text(first):
 
     before = signal.signal(signal.SIGALRM, stop)
     try:
-        for call in (first.words, first.wakati):
+        for call in (first.words, first.wakati, first.parse):
             signal.setitimer(signal.ITIMER_REAL, 0.1)
             with pytest.raises(Interrupt):
                 call(text)
