@@ -17,7 +17,7 @@ fn main(rt: HostRuntime) -> ExitCode {
         "dictc",
         words,
         |rt, words| read_command(rt, words, &texts),
-        run_command,
+        |rt, command| run_command(rt, command),
         print_hints,
     )
 }

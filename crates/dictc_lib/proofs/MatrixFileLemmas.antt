@@ -1,12 +1,12 @@
 -- Reading a file of connection costs to its end, or until it is rejected.
-use Rattle.std.proofs.Common.{◌≡◌, ◌⊎◌, ℕ, true, List, [], ◌++◌, sym, ap, ◌∙◌, subst, inl, inr, Option, None, Some}
+use Rattle.std.proofs.Common.{◌≡◌, ◌⊎◌, ℕ, true, List, [], ◌++◌, sym, ap, ◌∙◌, subst, inl, inr, Option, None, Some, refl}
 use Rattle.std.proofs.lemmas.List.{append-nil}
 use Rattle.std.proofs.KnownBytes.{Consumes-trans}
 use Rattle.std.specs.Prelude.{IfSome, is_some}
 use Rattle.std.specs.Io.KnownBytes.{Consumes, IsAtEnd}
 use Rattle.matrix_def.specs.Reading.{AreRejectedFor, reported_connection}
 use Rattle.mj_model.specs.declared.source_fault.SourceFault.{SourceFault}
-use Rattle.dictc_lib.specs.MatrixFiles.{AreRejected, HasReadEnough, HasReceived, IsReadUpTo, IsRejected}
+use Rattle.dictc_lib.specs.MatrixFiles.{AreRejected, HasReadEnough, HasReceived, IsReadFrom, IsReadUpTo, IsRejected}
 use Rattle.dictc_lib.specs.declared.matrix_file.MatrixFile.{MatrixFile}
 
 -- bytes mean what their prefix means if it is all of them, or if it is rejected whatever follows
@@ -30,11 +30,14 @@ stopped rest bytes (inl end) = inl end
 stopped rest bytes (inr rejected) = inr rejected
 
 -- enough of a reader's bytes was read when reading stops
-pub enough_read : (before after : Option (List ℕ)) (file : MatrixFile) → IsReadUpTo before after file → IfSome before (λ known. HasReadEnough known file)
-enough_read None after file read = tt
+pub enough_read : (before after : Option (List ℕ)) (file : MatrixFile) → IsReadUpTo before after file → IsReadFrom before file
+enough_read None after file read =
+    let whole : HasReadEnough read.bytes file = record { prefix = read.bytes; remainder = []; parts = sym (append-nil read.bytes); received = read.received; enough = inl refl } in
+    (read.bytes, whole, tt)
 enough_read (Some xs) None file read = absurd read.consumed
 enough_read (Some xs) (Some ys) file read =
-    record { prefix = read.bytes; remainder = ys; parts = read.consumed; received = read.received; enough = stopped ys read.bytes read.stops }
+    let part : HasReadEnough xs file = record { prefix = read.bytes; remainder = ys; parts = read.consumed; received = read.received; enough = stopped ys read.bytes read.stops } in
+    (xs, part, refl)
 
 either : (after : Option (List ℕ)) (file : MatrixFile) (bytes : List ℕ) → HasReceived bytes file → IsAtEnd after ⊎ AreRejected bytes → IsAtEnd after ⊎ IsRejected file
 either after file bytes received (inl end) = inl end

@@ -1,8 +1,13 @@
 pub mod CompileContext
+pub mod CompiledFiles
 pub mod FileLines
+pub mod HostFiles
 pub mod Listings
 pub mod MatrixFiles
 pub mod PairRows
+pub mod Rejections
+pub mod RequestedImages
+pub mod SourceContents
 pub mod Statuses
 pub mod Surfaces
 pub mod Templates

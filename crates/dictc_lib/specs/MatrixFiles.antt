@@ -35,7 +35,10 @@ pub record IsReadUpTo (before after : Option (List ℕ)) (file : MatrixFile) : T
   pub received : HasReceived bytes file
   pub stops : IsAtEnd after ⊎ AreRejected bytes
 
--- enough of the bytes of some opened file was read, if they are known; the contract doesn't fix
--- which file
+-- enough of some bytes was read: those that the reader had, if they are known
+abbrev pub IsReadFrom : Option (List ℕ) → MatrixFile → Type 0
+IsReadFrom remaining file = (bytes : List ℕ) × HasReadEnough bytes file × IfSome remaining (λ known. bytes ≡ known)
+
+-- enough of the bytes of some opened file was read; the contract doesn't fix which file
 abbrev pub IsOfAFile : {F : Type 0} → (F → Option (List ℕ)) → MatrixFile → Type 0
-IsOfAFile {F = F} remaining file = (opened : F) × IfSome (remaining opened) (λ known. HasReadEnough known file)
+IsOfAFile {F = F} remaining file = (opened : F) × IsReadFrom (remaining opened) file

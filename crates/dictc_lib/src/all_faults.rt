@@ -1,6 +1,9 @@
 //! Reporting all invalid lines of lexicons (`--all-faults`). After each error the lexicons are
 //! compiled again as if its line were empty.
 
+ghost use Rattle.std.specs.Prelude.{◌≡◌, true, false};
+ghost use Rattle.dictc_lib.specs.Rejections.{IsOfALine};
+
 use crate::bad_number::print_bad_number;
 use crate::compile_context::CompileContext;
 use crate::file_line::FileLine;
@@ -19,7 +22,10 @@ const CHARACTERS_MAX: usize = 200;
 
 /// Returns whether an error belongs to a line of a lexicon, so that compilation can continue
 /// without the line. Too many entries are not an error of a line.
-pub(crate) fn is_of_a_line(fault: SourceFault) -> bool {
+pub(crate) fn is_of_a_line(fault: SourceFault) -> bool
+    ensures yes { result ≡ true → IsOfALine fault }
+    ensures no { result ≡ false → IsOfALine fault → ⊥ }
+{
     let is_of_lexicon = FIRST_LEXICON_FILE <= fault.file && fault.file != NO_FILE;
     let is_of_whole = matches!(fault.kind, SourceKind::TooManyEntries | SourceKind::Memory);
     is_of_lexicon && fault.line > 0 && !is_of_whole

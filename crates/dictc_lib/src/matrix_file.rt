@@ -1,9 +1,9 @@
 //! Reading a `matrix.def` in pieces, without keeping its bytes. Reading stops early if no
 //! continuation of the first line is a header, because such a file may never end.
 
-ghost use Rattle.std.specs.Prelude.{◌≡◌, ◌⊎◌, ◌<◌, ◌≤◌, ℕ, List, [], Err, IfOk, IfErr, IfSome, length, take, true};
+ghost use Rattle.std.specs.Prelude.{◌≡◌, ◌⊎◌, ◌<◌, ◌≤◌, ℕ, List, [], Err, IfOk, IfErr, length, take, true};
 ghost use Rattle.std.specs.Io.KnownBytes.{Consumes, IsAtEnd};
-ghost use Rattle.dictc_lib.specs.MatrixFiles.{AreRejected, HasReadEnough, HasReceived, IsOfAFile, IsReadUpTo, IsRejected};
+ghost use Rattle.dictc_lib.specs.MatrixFiles.{AreRejected, HasReadEnough, HasReceived, IsOfAFile, IsReadFrom, IsReadUpTo, IsRejected};
 ghost use Rattle.matrix_def.specs.Costs.{IsTableIn};
 ghost use Rattle.matrix_def.specs.Reading.{reported_connection};
 ghost use Rattle.programs.specs.Faults.{Names};
@@ -96,8 +96,7 @@ impl MatrixFile {
         reading: ReadProgress<'_>,
         file: &mut F,
     ) -> Result<MatrixFile, Fault>
-        ensures taken { IfOk result (λ taken.
-            IfSome (F.remaining file.old) (λ known. HasReadEnough known taken)) }
+        ensures taken { IfOk result (IsReadFrom (F.remaining file.old)) }
         ensures end { IfOk result
             (λ taken. IsAtEnd (F.remaining file.new) ⊎ IsRejected taken) }
         ensures fault { IfErr result (Names File reading.entry.path.now) }

@@ -1,12 +1,18 @@
 //! Running a command of `dictc`.
 
+ghost use Rattle.std.specs.Prelude.{OnOk};
+ghost use Rattle.dictc_lib.specs.HostFiles.{HasImage};
+
 use crate::compile_error::CompileError;
 use crate::compiling::compile_and_report;
 use crate::ids::print_ids;
 use command_lines::dictc::Command;
 
 /// Compiles a dictionary, or lists the ids and costs of entries.
-pub fn run_command(rt: &HostRuntime, asked: &Command) -> Result<(), CompileError> {
+pub fn run_command(rt: &HostRuntime, asked: &Command) -> Result<(), CompileError>
+    // If the command compiles a dictionary and succeeds, the files that it names compile.
+    ensures { OnOk result (HasImage asked.now) }
+{
     match asked {
         Command::Image(options) => compile_and_report(rt, options),
         Command::Ids(options) => Ok(print_ids(rt, options)?),

@@ -37,5 +37,5 @@ pub(crate) fn is_told(alloc: Global, compiled: &Compiled, line: &str) -> bool {
 
 /// Compiles what `options` select, with a reporter that is not verbose.
 pub(crate) fn compiled_as(rt: &HostRuntime, options: &Options) -> Result<Compiled, CompileError> {
-    compile_image(rt, options, &Reporter::new(rt, "dictc", false))
+    compile_image(rt, &Reporter::new(rt, "dictc", false), rt, options)
 }

@@ -13,19 +13,19 @@ behind_two first second paths reported (inl memory) = inl memory
 behind_two first second paths reported (inr (path, among, named)) = inr (path, Contains-append_right (first ∷ second ∷ []) paths path among, named)
 
 pub returns-in_err-read-clause-fault : goal.returns-in_err-read-clause-fault
-returns-in_err-read-clause-fault c =
+returns-in_err-read-clause-fault g c =
     let p = err_from_is_err_and c.from_residual.result c.from_residual.ensures.1 in
     let named = subst (λ bytes. Names File bytes c.in_err-read.field-0.0) c.as_str.ensures.value c.in_err-read.ensures.fault in
     rw (p.1, p.2) (inr (c.args.chars.now, (0, omega arith, refl), named))
 
 pub returns-in_err-read-2-clause-fault : goal.returns-in_err-read-2-clause-fault
-returns-in_err-read-2-clause-fault c =
+returns-in_err-read-2-clause-fault g c =
     let p = err_from_is_err_and c.from_residual-in_err-read-2.result c.from_residual-in_err-read-2.ensures.1 in
     let named = subst (λ bytes. Names File bytes c.in_err-read-2.field-0.0) c.as_str-2.ensures.value c.in_err-read-2.ensures.fault in
     rw (p.1, p.2) (inr (c.args.unk.now, (1, omega arith, refl), named))
 
-pub returns-in_err-read_files-clause-fault : goal.returns-in_err-read_files-clause-fault
-returns-in_err-read_files-clause-fault c =
-    let p = err_from_is_err_and c.from_residual-in_err-read_files.result c.from_residual-in_err-read_files.ensures.1 in
-    let named = subst (λ paths. NamesOneOf paths c.in_err-read_files.field-0.0) c.deref.ensures.value c.in_err-read_files.ensures.fault in
-    rw (p.1, p.2) (behind_two c.args.chars.now c.args.unk.now c.args.options.now.lexicons.items c.in_err-read_files.field-0.0 named)
+pub returns-in_err-read_lexicons-clause-fault : goal.returns-in_err-read_lexicons-clause-fault
+returns-in_err-read_lexicons-clause-fault g c =
+    let p = err_from_is_err_and c.from_residual-in_err-read_lexicons.result c.from_residual-in_err-read_lexicons.ensures.1 in
+    let named = subst (λ paths. NamesOneOf paths c.in_err-read_lexicons.field-0.0) c.deref.ensures.value c.in_err-read_lexicons.ensures.fault in
+    rw (p.1, p.2) (behind_two c.args.chars.now c.args.unk.now c.args.options.now.lexicons.items c.in_err-read_lexicons.field-0.0 named)
