@@ -260,7 +260,7 @@ uint32_t kumquatsieve_field(kumquatsieve_segmenter *segmenter, const kumquatsiev
 
 /* Borrows a field by its name in the file NAME.fields beside the system's image NAME.img, or by a
    common name, such as "base_form" (docs/C_API.md). Sets *field to NULL if the feature has fewer
-   fields, or if the field is "*", which stands for none. K5, K10. */
+   fields, or if the field is "*", which means none. K5, K10. */
 uint32_t kumquatsieve_field_named(kumquatsieve_segmenter *segmenter, const kumquatsieve_word *word,
                                   const char *name, const char **field, size_t *length,
                                   kumquatsieve_error *error);

@@ -115,7 +115,7 @@ static bool is_of_another(const char *line, size_t length, const uint8_t sha256[
     return length != strlen(wanted) || memcmp(line, wanted, length) != 0;
 }
 
-/* Returns the length of the line at `at` without its end, and moves *next behind that. */
+/* Returns the length of the line at `at` without its end, and moves *next past it. */
 static size_t line_length(char *at, char *end, char **next) {
     char *feed = memchr(at, '\n', (size_t)(end - at));
     *next = feed ? feed + 1 : end;

@@ -11,7 +11,7 @@ typedef struct field {
     bool is_quoted;
 } field;
 
-/* Moves *at behind the field that starts there, and behind its comma, and sets *to to the field.
+/* Moves *at past the field that starts there, and past its comma, and sets *to to the field.
    Drops the blanks before it. Returns false if no field starts there: what follows the last comma
    is none if it is empty. What follows a closing quote is no part of the field. */
 static inline bool next_field(const char **at, const char *end, field *to) {

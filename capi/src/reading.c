@@ -1,4 +1,4 @@
-/* Reads the header of an image, and the rest of one that can't be mapped. The header is judged
+/* Reads the header of an image, and the rest of one that can't be mapped. The header is tested
    before the rest is read, so a wrong file of any length is rejected at once. docs/FORMAT.md has
    its layout. */
 #include "library.h"

@@ -120,7 +120,7 @@ uint32_t kumquatsieve_nodes(kumquatsieve_segmenter *segmenter, const kumquatsiev
     return succeed(error);
 }
 
-/* A call of the core that lends a text. */
+/* A call of the core that passes a text. */
 typedef uint32_t lend(kumquatsieve_segmenter *segmenter, const char **text, size_t *length);
 
 static uint32_t borrow(kumquatsieve_segmenter *segmenter, lend *call, const char **text,
