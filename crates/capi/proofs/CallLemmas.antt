@@ -11,4 +11,4 @@ module _ {T : Type 0} (Calls : Session → Result T SegmentFault → Session →
   pub called : (kept left : Option Session) (old new : Session) (answer : Result T SegmentFault) (reported : Result T CallFault)
       → kept ≡ Some old → left ≡ Some new → Calls old answer new → reported ≡ handle_result answer → IsCalled Calls kept left reported
   called kept left old new answer reported was is made gives =
-      subst (λ (k : Option Session). IsCalled Calls k left reported) (sym was) (record { answer = answer; new = new; called = made; left_is = is; told_is = gives })
+      subst (λ (k : Option Session). IsCalled Calls k left reported) (sym was) (record { answer = answer; new = new; called = made; left_is = is; reported_is = gives })

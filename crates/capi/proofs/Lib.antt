@@ -10,3 +10,4 @@ pub mod FillLemmas
 pub mod WalkLemmas
 pub mod NodeLemmas
 pub mod CodeLemmas
+pub mod SegmentedTexts

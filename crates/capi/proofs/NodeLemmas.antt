@@ -12,7 +12,7 @@ use Rattle.line_segmenter.specs.declared.last_words.LastWords.{LastWords}
 use Rattle.capi.specs.Nodes.{AreNodesWritten, StartsIn, c_node, c_nodes}
 use Rattle.capi.specs.Outputs.{with_front}
 use Rattle.capi.specs.declared.nodes.CNode.{CNode}
-use Rattle.lattice.proofs.NodeWords.{node_stands}
+use Rattle.lattice.proofs.NodeWords.{node_appears}
 use Rattle.lattice.specs.declared.marking.MarkedLattice.{MarkedLattice}
 use Rattle.lattice.specs.TextOver.{text_over}
 use Rattle.viterbi.specs.declared.nodes.lattice_node.LatticeNode.{LatticeNode}
@@ -60,7 +60,7 @@ module _ (h : SegmenterState) (last : LastWords) (lattice : MarkedLattice) (borr
       let words : AreWordsOfLattice (text_over (overlay_of last.dictionaries) last.text.now) nodes =
       subst (λ (t : List ℕ). AreWordsOfLattice (text_over (overlay_of last.dictionaries) t) nodes) (sym is.text)
       (subst (λ (o : Overlay). AreWordsOfLattice (text_over o c.text) nodes) (sym is.dictionaries) marked.nodes.words) in
-      (node_stands last.dictionaries last.text.now nodes utf8 short words i (get_or nodes i d) (slice_get-get_or nodes i d within)).begins
+      (node_appears last.dictionaries last.text.now nodes utf8 short words i (get_or nodes i d) (slice_get-get_or nodes i d within)).begins
 
   pub all_begin : All (StartsIn last.text.now) lattice.nodes.items
   all_begin = of_both h.segmented (IsSegmentedOver (overlay_of_state h)) (AreLast h last) (IsLatticeOfLastLine h lattice) (All (StartsIn last.text.now) lattice.nodes.items) begin_here borrowed made
@@ -69,9 +69,9 @@ module _ (h : SegmenterState) (last : LastWords) (lattice : MarkedLattice) (borr
     abbrev borrowed_nodes : List CNode
     borrowed_nodes = c_nodes (overlay_of last.dictionaries) last.text.now lattice.nodes.items lattice.on_best.items
 
-    told_of : from ≡ min first (length lattice.nodes.items) → new ≡ with_front (drop from borrowed_nodes) old → count ≡ length lattice.nodes.items
+    reported_of : from ≡ min first (length lattice.nodes.items) → new ≡ with_front (drop from borrowed_nodes) old → count ≡ length lattice.nodes.items
         → (c : SegmentedLine) → AreLast h last c → IsLatticeOfLastLine h lattice c → AreNodesWritten h first count old new c
-    told_of least written counts c is marked =
+    reported_of least written counts c is marked =
         let same : borrowed_nodes ≡ c_nodes (overlay_of_state h) c.text lattice.nodes.items lattice.on_best.items = λ i. c_nodes (is.dictionaries i) (is.text i) lattice.nodes.items lattice.on_best.items in
         let many = length-c_nodes (overlay_of last.dictionaries) last.text.now lattice.nodes.items lattice.on_best.items marks_even in
         let all_from : drop from borrowed_nodes ≡ drop first borrowed_nodes = ap (λ (n : ℕ). drop n borrowed_nodes) (least ∙ ap (λ (n : ℕ). min first n) (sym many)) ∙ drop_min first borrowed_nodes in
@@ -83,6 +83,6 @@ module _ (h : SegmenterState) (last : LastWords) (lattice : MarkedLattice) (borr
         }
 
     -- the nodes that were written are those of the last line's lattice
-    pub nodes_told : from ≡ min first (length lattice.nodes.items) → new ≡ with_front (drop from borrowed_nodes) old → count ≡ length lattice.nodes.items
+    pub nodes_reported : from ≡ min first (length lattice.nodes.items) → new ≡ with_front (drop from borrowed_nodes) old → count ≡ length lattice.nodes.items
         → OfLastLine h (AreNodesWritten h first count old new)
-    nodes_told least written counts = so_of_both h.segmented (IsSegmentedOver (overlay_of_state h)) (AreLast h last) (IsLatticeOfLastLine h lattice) (AreNodesWritten h first count old new) (told_of least written counts) borrowed made
+    nodes_reported least written counts = so_of_both h.segmented (IsSegmentedOver (overlay_of_state h)) (AreLast h last) (IsLatticeOfLastLine h lattice) (AreNodesWritten h first count old new) (reported_of least written counts) borrowed made

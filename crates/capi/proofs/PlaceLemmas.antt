@@ -41,16 +41,16 @@ module _ (text : List ℕ) (before at : ℕ) where
   line_placed segment.Memory rejected found = found
 
 -- the code and the position of an error
-module _ (old : Option SegmenterState) (text : List ℕ) (Refused : List ℕ → SegmentFault → Type 0) (before at : ℕ)
-    (so : (fault : SegmentFault) → Refused text fault → IsPlaceIfBad text before at fault → IsErrorPosition text before at fault) where
-  place_for : (kept : Option SegmenterState) (fault : CallFault) → IsCallError kept (λ _. Refused text) fault → IsCallErrorPosition (IsPlaceIfBad text) before at fault → IsCallErrorPosition (IsErrorPosition text) before at fault
+module _ (old : Option SegmenterState) (text : List ℕ) (Rejected : List ℕ → SegmentFault → Type 0) (before at : ℕ)
+    (so : (fault : SegmentFault) → Rejected text fault → IsPlaceIfBad text before at fault → IsErrorPosition text before at fault) where
+  place_for : (kept : Option SegmenterState) (fault : CallFault) → IsCallError kept (λ _. Rejected text) fault → IsCallErrorPosition (IsPlaceIfBad text) before at fault → IsCallErrorPosition (IsErrorPosition text) before at fault
   place_for None (call.Segment f) rejected found = absurd (cc)
   place_for (Some h) (call.Segment f) rejected found = so f rejected found
   place_for kept call.EmptySegmenter rejected found = found
   place_for kept call.FullSegmenter rejected found = found
   place_for kept call.ShortBuffer rejected found = found
 
-  pub tells_placed : (answer : Result PathSize CallFault) (code : ℕ) → code ≡ result_code answer → IfErr answer (IsCallError old (λ _. Refused text)) → IfErr answer (IsCallErrorPosition (IsPlaceIfBad text) before at)
-      → code ≢ 0 → PositionResult (IsCallError old (λ _. Refused text)) (IsErrorPosition text) before at code
-  tells_placed (Ok size) code is rejected found fails = absurd (fails is)
-  tells_placed (Err fault) code is rejected found fails = record { fault = fault; is = rejected; reported = is; place = place_for old fault rejected found }
+  pub reports_placed : (answer : Result PathSize CallFault) (code : ℕ) → code ≡ result_code answer → IfErr answer (IsCallError old (λ _. Rejected text)) → IfErr answer (IsCallErrorPosition (IsPlaceIfBad text) before at)
+      → code ≢ 0 → PositionResult (IsCallError old (λ _. Rejected text)) (IsErrorPosition text) before at code
+  reports_placed (Ok size) code is rejected found fails = absurd (fails is)
+  reports_placed (Err fault) code is rejected found fails = record { fault = fault; is = rejected; reported = is; place = place_for old fault rejected found }

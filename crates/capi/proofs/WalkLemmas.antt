@@ -42,14 +42,14 @@ module _ (o : Overlay) (text : List ℕ) (words : List Word) (all : List CWord) 
   follow_here = subst (MayFollow o text now) (drop_more words i d low) walked.follow
 
   -- the word may follow, and the cost up to it is far from overflow
-  pub stands_here : IsWordOf o text now.right here
-  stands_here = follow_here.0
+  pub appears_here : IsWordOf o text now.right here
+  appears_here = follow_here.0
 
   low_here : IsLow now.total
   low_here = follow_here.1
 
   pub can_follow : CanFollow o now here
-  can_follow = record { pair = stands_here.follows; low = low_here }
+  can_follow = record { pair = appears_here.follows; low = low_here }
 
   pub walked_on : (next : PathEnd) → next ≡ beyond → IsWalked o text words all (i + 1) next
   walked_on next is = subst (IsWalked o text words all (i + 1)) (sym is) (record {
@@ -57,14 +57,14 @@ module _ (o : Overlay) (text : List ℕ) (words : List Word) (all : List CWord) 
     follow = follow_here.2;
   })
 
-  pub told_here : (next : PathEnd) (e : CWord) → next ≡ beyond → get_or all i e ≡ c_word_in o text next.total here
-  told_here next e is =
+  pub reported_here : (next : PathEnd) (e : CWord) → next ≡ beyond → get_or all i e ≡ c_word_in o text next.total here
+  reported_here next e is =
       let at : i ≡ i + 0 = omega arith in
       ap (λ (n : ℕ). get_or all n e) at ∙ sym (get_or-drop i all 0 e) ∙ ap (λ (xs : List CWord). get_or xs 0 e) rest_here ∙ ap (λ (r : PathEnd). c_word_in o text r.total here) (sym is)
 
-pub told_word : (o : Overlay) (text : List ℕ) (w : Word) (total : ℤ) (category n : ℕ) (feature : List ℕ) (reported : CWord) → reported ≡ c_word w category total n
+pub reported_word : (o : Overlay) (text : List ℕ) (w : Word) (total : ℤ) (category n : ℕ) (feature : List ℕ) (reported : CWord) → reported ≡ c_word w category total n
     → category ≡ first_category o (chars_from text w.start) → n ≡ length feature → feature ≡ feature_of o w.origin → reported ≡ c_word_in o text total w
-told_word o text w total category n feature reported is first many there = is ∙ (λ i. c_word w (first i) total ((many ∙ ap (λ (bs : List ℕ). length bs) there) i))
+reported_word o text w total category n feature reported is first many there = is ∙ (λ i. c_word w (first i) total ((many ∙ ap (λ (bs : List ℕ). length bs) there) i))
 
 -- a fact about the last line follows from another one
 of_cut : (segment : Option SegmentedLine) (I P Q : SegmentedLine → Type 0) → ((c : SegmentedLine) → P c → Q c) → IsSomeAnd segment (λ c. I c × P c) → IsSomeAnd segment (λ c. I c × Q c)
@@ -86,9 +86,9 @@ module _ (h : SegmenterState) (last : LastWords) (first from count : ℕ) (befor
   abbrev left : List CWord
   left = c_words (overlay_of last.dictionaries) last.text.now before (drop from last.words.now)
 
-  told_of : (c : SegmentedLine) → AreLast h last c → from ≡ min first (length last.words.now) → drop from borrowed_words ≡ left → new ≡ with_front left old → count ≡ length last.words.now
+  reported_of : (c : SegmentedLine) → AreLast h last c → from ≡ min first (length last.words.now) → drop from borrowed_words ≡ left → new ≡ with_front left old → count ≡ length last.words.now
       → AreWordsWritten h first count old new c
-  told_of c borrowed least walked written counts =
+  reported_of c borrowed least walked written counts =
       let same : borrowed_words ≡ c_words (overlay_of_state h) c.text at_bos c.words = λ i. c_words (borrowed.dictionaries i) (borrowed.text i) at_bos (borrowed.words i) in
       let many = length-c_words (overlay_of last.dictionaries) last.text.now at_bos last.words.now in
       let all_from : drop from borrowed_words ≡ drop first borrowed_words = ap (λ (n : ℕ). drop n borrowed_words) (least ∙ ap (λ (n : ℕ). min first n) (sym many)) ∙ drop_min first borrowed_words in
@@ -98,7 +98,7 @@ module _ (h : SegmenterState) (last : LastWords) (first from count : ℕ) (befor
       }
 
   -- the words that were written are those of the last line
-  pub are_told : OfLastLine h (AreLast h last) → from ≡ min first (length last.words.now) → drop from borrowed_words ≡ left → new ≡ with_front left old → count ≡ length last.words.now
+  pub are_reported : OfLastLine h (AreLast h last) → from ≡ min first (length last.words.now) → drop from borrowed_words ≡ left → new ≡ with_front left old → count ≡ length last.words.now
       → OfLastLine h (AreWordsWritten h first count old new)
-  are_told borrowed least walked written counts =
-      of_cut h.segmented (IsSegmentedOver (overlay_of_state h)) (AreLast h last) (AreWordsWritten h first count old new) (λ c is. told_of c is least walked written counts) borrowed
+  are_reported borrowed least walked written counts =
+      of_cut h.segmented (IsSegmentedOver (overlay_of_state h)) (AreLast h last) (AreWordsWritten h first count old new) (λ c is. reported_of c is least walked written counts) borrowed

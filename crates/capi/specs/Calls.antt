@@ -74,10 +74,10 @@ IsErrorFor Text = IsTextError
 
 -- the result of segmenting: on 0 the size of the path of a valid text, otherwise an error, its
 -- position and an unchanged segmenter
-pub record SegmentResult (old new : Option SegmenterState) (text : List ℕ) (Accepted : List ℕ → Type 0) (Refused : List ℕ → SegmentFault → Type 0) (size_before size : PathSize) (at_before at code : ℕ) : Type 0 where
+pub record SegmentResult (old new : Option SegmenterState) (text : List ℕ) (Accepted : List ℕ → Type 0) (Rejected : List ℕ → SegmentFault → Type 0) (size_before size : PathSize) (at_before at code : ℕ) : Type 0 where
   pub accepted : code ≡ 0 → Accepted text
   pub done : code ≡ 0 → Moves old new (IsSegmentedInto text size)
-  pub rejected : code ≢ 0 → PositionResult (IsCallError old (λ _. Refused text)) (IsErrorPosition text) at_before at code
+  pub rejected : code ≢ 0 → PositionResult (IsCallError old (λ _. Rejected text)) (IsErrorPosition text) at_before at code
   pub kept : code ≢ 0 → new ≡ old
   pub size_unset : OnlyOkSets code size_before size
   pub at_unset : OnlyFaultsSet code at_before at

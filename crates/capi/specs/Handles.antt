@@ -33,9 +33,9 @@ pub record IsCallOf {T : Type 0} (Calls : Session → Result T SegmentFault → 
   pub new : Session
   pub called : Calls old answer new
   pub left_is : left ≡ Some new
-  pub told_is : reported ≡ handle_result answer
+  pub reported_is : reported ≡ handle_result answer
 
--- the handle's session was called, or the handle is empty and the result is `EmptyCutter`
+-- the handle's session was called, or the handle is empty and the result is `EmptySegmenter`
 abbrev pub IsCalled : {T : Type 0} → (Session → Result T SegmentFault → Session → Type 0) → Option Session → Option Session → Result T CallFault → Type 0
 IsCalled Calls None left reported = (left ≡ None) × (reported ≡ Err call.EmptySegmenter)
 IsCalled Calls (Some old) left reported = IsCallOf Calls old left reported
@@ -103,32 +103,32 @@ pub record NumberedResult (Is : CallFault → Type 0) (before number code : ℕ)
 
 -- the result of a query whose bytes C borrows: on 0 they are set, otherwise an error and no output;
 -- the segmenter is unchanged
-pub record BorrowResult (old new : Option Session) (Is : SegmenterState → List ℕ → Type 0) (Refused : SegmenterState → SegmentFault → Type 0) (before borrowed : BytesForC) (code : ℕ) : Type 0 where
+pub record BorrowResult (old new : Option Session) (Is : SegmenterState → List ℕ → Type 0) (Rejected : SegmenterState → SegmentFault → Type 0) (before borrowed : BytesForC) (code : ℕ) : Type 0 where
   pub reported : code ≡ 0 → Borrows Is borrowed new
   pub unset : OnlyOkSets code before borrowed
-  pub rejected : code ≢ 0 → CallResult (IsCallError (segmenter_of old) Refused) code
+  pub rejected : code ≢ 0 → CallResult (IsCallError (segmenter_of old) Rejected) code
   pub segmenter : segmenter_of new ≡ segmenter_of old
 
 -- the result of a setting: on 0 the handle's segmenter changed by `Is`, otherwise an error and no
 -- change
-pub record ChangeResult (old new : Option SegmenterState) (Is : SegmenterState → SegmenterState → Type 0) (Refused : SegmenterState → SegmentFault → Type 0) (code : ℕ) : Type 0 where
+pub record ChangeResult (old new : Option SegmenterState) (Is : SegmenterState → SegmenterState → Type 0) (Rejected : SegmenterState → SegmentFault → Type 0) (code : ℕ) : Type 0 where
   pub done : code ≡ 0 → Moves old new Is
-  pub rejected : code ≢ 0 → CallResult (IsCallError old Refused) code
+  pub rejected : code ≢ 0 → CallResult (IsCallError old Rejected) code
   pub kept : code ≢ 0 → new ≡ old
 
 -- the result of a call that loads: on 0 it did its work, otherwise an error with its number, and no
 -- change
-pub record LoadingResult (Done : Type 0) (Refused : CallFault → Type 0) (old new : Option SegmenterState) (before number code : ℕ) : Type 0 where
+pub record LoadingResult (Done : Type 0) (Rejected : CallFault → Type 0) (old new : Option SegmenterState) (before number code : ℕ) : Type 0 where
   pub done : code ≡ 0 → Done
-  pub rejected : code ≢ 0 → NumberedResult Refused before number code
+  pub rejected : code ≢ 0 → NumberedResult Rejected before number code
   pub kept : code ≢ 0 → new ≡ old
   pub unset : OnlyFaultsSet code before number
 
 -- the result of a call that writes items: on 0 they were written from index `first` and `count` is
 -- their number, otherwise an error and no output; the segmenter is unchanged
-pub record ItemsResult {Item : Type 0} (Told : SegmenterState → ℕ → ℕ → List Item → List Item → SegmentedLine → Type 0) (Refused : SegmenterState → SegmentFault → Type 0) (first : ℕ) (old new : Option SegmenterState) (out_before out : List Item) (before count code : ℕ) : Type 0 where
-  pub reported : code ≡ 0 → IsSomeAnd old (λ h. OfLastLine h (Told h first count out_before out))
+pub record ItemsResult {Item : Type 0} (Reported : SegmenterState → ℕ → ℕ → List Item → List Item → SegmentedLine → Type 0) (Rejected : SegmenterState → SegmentFault → Type 0) (first : ℕ) (old new : Option SegmenterState) (out_before out : List Item) (before count code : ℕ) : Type 0 where
+  pub reported : code ≡ 0 → IsSomeAnd old (λ h. OfLastLine h (Reported h first count out_before out))
   pub segmenter : new ≡ old
-  pub rejected : code ≢ 0 → CallResult (IsCallError old Refused) code
+  pub rejected : code ≢ 0 → CallResult (IsCallError old Rejected) code
   pub kept : code ≢ 0 → out ≡ out_before
   pub unset : OnlyOkSets code before count

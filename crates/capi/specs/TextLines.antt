@@ -1,9 +1,11 @@
 -- Texts that a handle's segmenter segments line by line.
-use Rattle.std.specs.Prelude.{◌≡◌, ◌≢◌, ℕ, List, Option, Some, None, option_map}
+use Rattle.std.specs.Prelude.{◌≡◌, ◌≢◌, ℕ, List, length, Option, Some, None, option_map}
 use Rattle.std.specs.Option.{IsSomeAnd}
 use denote.RawPtr.{Ptr}
-use Rattle.line_segmenter.specs.Segmenters.{SegmenterState}
+use Rattle.line_segmenter.specs.Segmenters.{SegmenterState, overlay_of_state}
 use Rattle.line_segmenter.specs.TextLines.{ParsesLines, StopsFor}
+use Rattle.mj_model.specs.Output.{text_lines}
+use Rattle.out_format.specs.Segmentation.{IsSegmentation}
 use Rattle.capi.specs.Handles.{Borrows, CallResult, segmenter_of, borrowed_at}
 use Rattle.capi.specs.declared.fault.CallFault.{CallFault}
 use Rattle.capi.specs.declared.fault.CallFault.TheVariants as call
@@ -27,6 +29,14 @@ lines_report at count lines = record { borrowed = borrowed_at at count; lines = 
 -- all lines printed, and C borrows their output
 abbrev pub BorrowsLines : Option SegmenterState → Option Session → List ℕ → LinesReport → Type 0
 BorrowsLines old new text reported = IsSomeAnd old (λ h. Borrows (λ _. ParsesLines h text reported.lines) reported.borrowed new)
+
+-- the text has `lines` lines, all valid, and C borrows its segmentation by the handle's segmenter:
+-- for each line the formatted words of its best path
+pub record BorrowsSegmentation (old : Option SegmenterState) (new : Option Session) (text : List ℕ) (reported : LinesReport) : Type 0 where
+  pub h : SegmenterState
+  pub segmenter : old ≡ Some h
+  pub counted : reported.lines ≡ length (text_lines text)
+  pub segmented : Borrows (λ _. IsSegmentation (overlay_of_state h) h.format (text_lines text)) reported.borrowed new
 
 -- why not all lines printed: the handle is empty and nothing is set, or the line with this number
 -- has an error and C borrows the output of the lines before it

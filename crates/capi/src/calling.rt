@@ -11,7 +11,7 @@ use std::alloc::Global;
 
 impl Handle {
     /// Calls `call` with the session, which is taken out of the handle and put back. Fails with
-    /// `EmptyCutter` if there is none.
+    /// `EmptySegmenter` if there is none.
     pub fn call<T, F: FnOnce(&mut Session) -> Result<T, SegmentFault>>(
         &mut self,
         alloc: Global,

@@ -4,11 +4,11 @@
 //! 0 if it succeeds, and takes the segmenter out of its handle and puts it back. Rust programs use
 //! `line_segmenter` itself.
 //!
-//! Example:
+//! Example, by the header's call over this crate's export of the same name:
 //!
 //! ```text
-//! kumquatsieve_segment(&segmenter, BYTES("すもももも"), 15, &count, &total, NULL)
-//! // KUMQUATSIEVE_OK, with count 2 and total 152
+//! kumquatsieve_segment(&segmenter, "すもももも", 15, 0, &line, NULL)
+//! // KUMQUATSIEVE_OK; line.count is 2 and line.total 152
 //! ```
 //! The test `sizes_and_costs` of `tests/capi/c/lines.c` runs it.
 #![tactic(auto)]

@@ -7,7 +7,7 @@ ghost use Rattle.capi.specs.Calls.{IsExtended, IsLoadedFrom, IsShared, IsUserFau
 ghost use Rattle.capi.specs.Handles.{Fills, FillsFrom, IsFillError, IsCallError, IsShareError, Moves, segmenter_in};
 ghost use Rattle.capi.specs.declared.fault.CallFault.TheVariants.{Segment};
 ghost use Rattle.line_segmenter.specs.Trusted.{IsTrusted};
-ghost use Rattle.image_format.specs.declared.digest_test.DigestTest.TheVariants.{Made};
+ghost use Rattle.image_format.specs.declared.digest_test.DigestTest.TheVariants.{Verified};
 
 use crate::fault::CallFault;
 use crate::handle::Handle;
@@ -49,9 +49,9 @@ pub fn load_trusted(
 ) -> Result<(), CallFault>
     requires { IsTrusted image }
     ensures loaded { OnOk result (Fills (segmenter_in segmenter.old) (segmenter_in segmenter.new)
-        (IsLoadedFrom Made image)) }
+        (IsLoadedFrom Verified image)) }
     ensures rejected { IfErr result
-        (IsFillError (segmenter_in segmenter.old) (IsLoadError Made image)) }
+        (IsFillError (segmenter_in segmenter.old) (IsLoadError Verified image)) }
     ensures unchanged { OnErr result (segmenter_in segmenter.new ≡ segmenter_in segmenter.old) }
 {
     if segmenter.is_full() {
@@ -70,9 +70,10 @@ pub fn add_trusted(
 ) -> Result<(), CallFault>
     requires { IsTrusted image }
     ensures added { OnOk result
-        (Moves (segmenter_in segmenter.old) (segmenter_in segmenter.new) (IsExtended Made image)) }
+        (Moves (segmenter_in segmenter.old) (segmenter_in segmenter.new)
+        (IsExtended Verified image)) }
     ensures rejected { IfErr result
-        (IsCallError (segmenter_in segmenter.old) (IsUserFault Made image)) }
+        (IsCallError (segmenter_in segmenter.old) (IsUserFault Verified image)) }
     ensures unchanged { OnErr result (segmenter_in segmenter.new ≡ segmenter_in segmenter.old) }
 {
     let mut session = segmenter.take(alloc).ok_or(CallFault::EmptySegmenter)?;

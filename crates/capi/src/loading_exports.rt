@@ -8,7 +8,7 @@ ghost use Rattle.capi.specs.Codes.{memory};
 ghost use Rattle.capi.specs.Handles.{segmenter_in};
 ghost use Rattle.line_segmenter.specs.Trusted.{IsTrusted};
 ghost use Rattle.image_format.specs.DigestTests.{test_by};
-ghost use Rattle.image_format.specs.declared.digest_test.DigestTest.TheVariants.{Made};
+ghost use Rattle.image_format.specs.declared.digest_test.DigestTest.TheVariants.{Verified};
 
 use crate::codes::result_with_number;
 use crate::handle::Handle;
@@ -71,7 +71,7 @@ pub extern "C" fn kumquatsieve_load_trusted(
     number: &mut u64,
 ) -> u32
     requires { IsTrusted image.bytes }
-    ensures { LoadResult Made image.bytes
+    ensures { LoadResult Verified image.bytes
         (segmenter_in segmenter.old) (segmenter_in segmenter.new) number.old number.new result }
 {
     let image = ImageBytes::borrowed(BorrowedBytes::of(image));
@@ -88,7 +88,7 @@ pub extern "C" fn kumquatsieve_add_user_trusted(
     number: &mut u64,
 ) -> u32
     requires { IsTrusted image.bytes }
-    ensures { AddUserResult Made image.bytes
+    ensures { AddUserResult Verified image.bytes
         (segmenter_in segmenter.old) (segmenter_in segmenter.new) number.old number.new result }
 {
     let image = ImageBytes::borrowed(BorrowedBytes::of(image));

@@ -4,8 +4,8 @@
 ghost use Rattle.std.specs.Prelude.{◌≡◌, ◌≢◌, length};
 ghost use Rattle.capi.specs.Queries.{IsQueryError, IsCopied, IsQueryResult, NeedsMore, entry_by};
 ghost use Rattle.capi.specs.declared.queries.Query.TheVariants.{EntryFeature as FeatureBy, Features as AllFeatures, Path as PathText};
-ghost use Rattle.capi.specs.Handles.{CallResult, BorrowResult, borrowed_at};
-ghost use Rattle.capi.specs.TextLines.{LinesResult, lines_report};
+ghost use Rattle.capi.specs.Handles.{CallResult, BorrowResult, borrowed_at, segmenter_in};
+ghost use Rattle.capi.specs.TextLines.{BorrowsSegmentation, LinesResult, lines_report};
 ghost use Rattle.capi.specs.Texts.{text_at};
 
 use crate::codes::code_of_result;
@@ -46,7 +46,11 @@ pub extern "C" fn kumquatsieve_parse_lines(
     count: &mut usize,
     lines: &mut u64,
 ) -> u32
-    ensures { LinesResult segmenter.old.slot.value segmenter.new.slot.value text.now
+    // If the result is 0, `lines` is the number of lines, all are valid, and the output is the
+    // segmentation of the text: for each line the formatted words of its best path.
+    ensures ok { (result ≡ 0) → BorrowsSegmentation (segmenter_in segmenter.old)
+        segmenter.new.slot.value text.now (lines_report out.new count.new lines.new) }
+    ensures outcome { LinesResult segmenter.old.slot.value segmenter.new.slot.value text.now
         (lines_report out.old count.old lines.old)
         (lines_report out.new count.new lines.new) result }
 {

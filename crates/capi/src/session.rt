@@ -4,7 +4,7 @@ ghost use Rattle.std.specs.Prelude.{◌≡◌, IfOk, IfErr, OnOk, OnErr};
 ghost use Rattle.line_segmenter.specs.Faults.{IsLoadError, PassesTestsBeforeKeys};
 ghost use Rattle.line_segmenter.specs.declared.fault.SegmentFault.TheVariants.{Memory};
 ghost use Rattle.line_segmenter.specs.Trusted.{IsTrusted};
-ghost use Rattle.image_format.specs.declared.digest_test.DigestTest.TheVariants.{Made};
+ghost use Rattle.image_format.specs.declared.digest_test.DigestTest.TheVariants.{Verified};
 ghost use Rattle.capi.specs.Calls.{IsExtended, IsLoadedFrom, IsShared, IsUserFault};
 
 use image_format::borrowed::ImageBytes;
@@ -40,8 +40,8 @@ impl Session {
     pub fn over_trusted(alloc: Global, image: ImageBytes) -> Result<Box<Session>, SegmentFault>
         requires { IsTrusted image }
         ensures loaded { IfOk result
-            (λ session. IsLoadedFrom Made image session.value.segmenter) }
-        ensures rejected { IfErr result (IsLoadError Made image) }
+            (λ session. IsLoadedFrom Verified image session.value.segmenter) }
+        ensures rejected { IfErr result (IsLoadError Verified image) }
     {
         Session::of(alloc, Segmenter::load_trusted(alloc, image)?)
     }
@@ -82,8 +82,9 @@ impl Session {
     /// Adds a user dictionary whose image is intact, without the checks of the image.
     pub fn add_trusted_user(&mut self, image: ImageBytes) -> Result<(), SegmentFault>
         requires { IsTrusted image }
-        ensures added { OnOk result (IsExtended Made image self.old.segmenter self.new.segmenter) }
-        ensures rejected { IfErr result (IsUserFault Made image self.old.segmenter) }
+        ensures added { OnOk result
+            (IsExtended Verified image self.old.segmenter self.new.segmenter) }
+        ensures rejected { IfErr result (IsUserFault Verified image self.old.segmenter) }
         ensures unchanged { OnErr result (self.new.segmenter ≡ self.old.segmenter) }
     {
         self.segmenter.add_trusted_user(image)

@@ -25,8 +25,8 @@ token_val = vstruct (vcons (vstruct vnil) vnil)
 abbrev pub mark_own : List Val → Fml
 mark_own = (plain_struct (plain_struct [] ∷ [])).own_val (tt, tt)
 
-pub mark_told : (vs : List Val) → shadow (mark_own vs) → vs ≡ token_val ∷ []
-mark_told vs reported = reported.1.0 ∙ (λ i. vstruct (of_list (reported.1.1.0.1.0 i ++ [])) ∷ [])
+pub mark_reported : (vs : List Val) → shadow (mark_own vs) → vs ≡ token_val ∷ []
+mark_reported vs reported = reported.1.0 ∙ (λ i. vstruct (of_list (reported.1.1.0.1.0 i ++ [])) ∷ [])
 
 pub mark_made : {M : Type 1} {𝓤 : Ura M} (𝓛 : Logic 𝓤) → ent 𝓤 (emp 𝓤) (sem 𝓛 (mark_own (token_val ∷ [])))
 mark_made 𝓛 = makes_shadow 𝓛 (mark_own (token_val ∷ [])) (λ _. (tt, ((λ _. (tt, tt)), tt))) ((vstruct vnil ∷ [], tt), (refl, ((tt, (refl, tt)), tt)))

@@ -38,16 +38,16 @@ both_covered ranges earlier later below above steps is b a o = record {
 
 -- ---- the step of a code point
 
-none_behind : (before : Option CharInfo) (steps : List CategoryStep) (code : ℕ) (d : CategoryStep) → ((k : ℕ) → k < length steps → code < (get_or steps k d).first) → info_from before steps code ≡ before
-none_behind before [] code d following = refl
-none_behind before (s ∷ ss) code d following = cond-true (nat_lt code s.first) before (info_from s.info ss code) (lt-ltb code s.first (following 0 (omega arith)))
+none_after : (before : Option CharInfo) (steps : List CategoryStep) (code : ℕ) (d : CategoryStep) → ((k : ℕ) → k < length steps → code < (get_or steps k d).first) → info_from before steps code ≡ before
+none_after before [] code d following = refl
+none_after before (s ∷ ss) code d following = cond-true (nat_lt code s.first) before (info_from s.info ss code) (lt-ltb code s.first (following 0 (omega arith)))
 
 info_at : (before : Option CharInfo) (steps : List CategoryStep) (n code : ℕ) (d : CategoryStep) → n < length steps → ((k : ℕ) → k ≤ n → (get_or steps k d).first ≤ code)
     → ((k : ℕ) → n < k → k < length steps → code < (get_or steps k d).first) → info_from before steps code ≡ (get_or steps n d).info
 info_at before [] n code d in' reached following = absurd (omega arith)
 info_at before (s ∷ ss) zero code d in' reached following =
     cond-false (nat_lt code s.first) before (info_from s.info ss code) (le-ltb code s.first (reached 0 (omega arith)))
-    ∙ none_behind s.info ss code d (λ k h. following (suc k) (omega arith) (omega arith))
+    ∙ none_after s.info ss code d (λ k h. following (suc k) (omega arith) (omega arith))
 info_at before (s ∷ ss) (suc n) code d in' reached following =
     cond-false (nat_lt code s.first) before (info_from s.info ss code) (le-ltb code s.first (reached 0 (omega arith)))
     ∙ info_at s.info ss n code d (omega arith) (λ k h. reached (suc k) (omega arith)) (λ k low h. following (suc k) (omega arith) (omega arith))
@@ -68,7 +68,7 @@ rising_sorted from (s ∷ ss) rise (suc i) (suc j) d le in' = rising_sorted (s.f
 pub no_step : (steps : List CategoryStep) (code n : ℕ) → IsPartitionPoint (λ s. nat_le s.first code ≡ true) (λ s. nat_le s.first code ≡ false) steps n → n ≡ 0 → None ≡ info_by steps code
 no_step steps code n point is =
     let d : CategoryStep = record { first = 0; info = None } in
-    sym (none_behind None steps code d (λ k h. leb-false (get_or steps k d).first code (point.1 k d (omega arith) h)))
+    sym (none_after None steps code d (λ k h. leb-false (get_or steps k d).first code (point.1 k d (omega arith) h)))
 
 pub last_step : (steps : List CategoryStep) (code n : ℕ) → IsPartitionPoint (λ s. nat_le s.first code ≡ true) (λ s. nat_le s.first code ≡ false) steps n → n ≤ length steps → 0 < n → (d : CategoryStep)
     → (get_or steps (n - 1) d).info ≡ info_by steps code

@@ -78,9 +78,9 @@ inside_more sizes before records i r found low is out h =
     (sym (lines_more sizes before records i r low is ∙ ap (λ (b : Bool). (before ++ lines_outside sizes (rows_of (take i records))) ++ cond b (r.line ∷ []) []) out
     ∙ append-nil (before ++ lines_outside sizes (rows_of (take i records))))) h
 
-pub all_looked_at : (sizes : MatrixSizes) (before : List ℕ) (records : List Record) (i : ℕ) (found : Option ℕ) → length records ≤ i
+pub all_scanned : (sizes : MatrixSizes) (before : List ℕ) (records : List Record) (i : ℕ) (found : Option ℕ) → length records ≤ i
     → IsLeastOf (before ++ lines_outside sizes (rows_of (take i records))) found → IsLeastOf (before ++ lines_outside sizes (rows_of records)) found
-all_looked_at sizes before records i found all h = subst (λ (rs : List Record). IsLeastOf (before ++ lines_outside sizes (rows_of rs)) found) (take_all i records all) h
+all_scanned sizes before records i found all h = subst (λ (rs : List Record). IsLeastOf (before ++ lines_outside sizes (rows_of rs)) found) (take_all i records all) h
 
 -- ---- the records of one category after another
 

@@ -118,14 +118,14 @@ info_so_far : (categories : List NamedCategory) (before : Option CharInfo) (step
 info_so_far categories before steps code = ap (info_or (default_info categories)) (cond-false (nat_lt code 0) None (info_from before steps code) (le-ltb code 0 (omega arith)))
 
 -- one more step, which applies to all code points from it on, and to none before it
-said_before : (categories : List NamedCategory) (before : Option CharInfo) (steps : List CategoryStep) (s : CategoryStep) (code : ℕ) → code < s.first
+stated_before : (categories : List NamedCategory) (before : Option CharInfo) (steps : List CategoryStep) (s : CategoryStep) (code : ℕ) → code < s.first
     → table_info (so_far categories before (steps ++ s ∷ [])) code ≡ table_info (so_far categories before steps) code
-said_before categories before steps s code h =
+stated_before categories before steps s code h =
     info_so_far categories before (steps ++ s ∷ []) code ∙ ap (info_or (default_info categories)) (info_below before steps s code h) ∙ sym (info_so_far categories before steps code)
 
-said_after : (categories : List NamedCategory) (before : Option CharInfo) (steps : List CategoryStep) (s : CategoryStep) (code : ℕ) → EndBefore s.first steps → s.first ≤ code
+stated_after : (categories : List NamedCategory) (before : Option CharInfo) (steps : List CategoryStep) (s : CategoryStep) (code : ℕ) → EndBefore s.first steps → s.first ≤ code
     → table_info (so_far categories before (steps ++ s ∷ [])) code ≡ info_or (default_info categories) s.info
-said_after categories before steps s code ends h = info_so_far categories before (steps ++ s ∷ []) code ∙ ap (info_or (default_info categories)) (info_above before steps s code ends h)
+stated_after categories before steps s code ends h = info_so_far categories before (steps ++ s ∷ []) code ∙ ap (info_or (default_info categories)) (info_above before steps s code ends h)
 
 end_parts : (end : ℕ) (steps : List CategoryStep) (s : CategoryStep) → EndBefore end (steps ++ s ∷ []) → EndBefore end steps × (s.first < end)
 end_parts end [] s e = (tt, e.0)
@@ -148,22 +148,22 @@ same_info a b = elim (cases_eq a.bits b.bits) [
 ]
 
 -- one more step that starts no range: it is above all code points, or changes nothing
-begun_above : (categories : List NamedCategory) (before : Option CharInfo) (steps : List CategoryStep) (s : CategoryStep) (ranges : List CategoryRange) → AreBegun categories before steps ranges → code_point_max < s.first
+started_above : (categories : List NamedCategory) (before : Option CharInfo) (steps : List CategoryStep) (s : CategoryStep) (ranges : List CategoryRange) → AreBegun categories before steps ranges → code_point_max < s.first
     → AreBegun categories before (steps ++ s ∷ []) ranges
-begun_above categories before steps s ranges b above = record {
-  formed = ranges_same (so_far categories before steps) (so_far categories before (steps ++ s ∷ [])) ranges (λ code h. sym (said_before categories before steps s code (omega (arith, h, above)))) b.formed;
+started_above categories before steps s ranges b above = record {
+  formed = ranges_same (so_far categories before steps) (so_far categories before (steps ++ s ∷ [])) ranges (λ code h. sym (stated_before categories before steps s code (omega (arith, h, above)))) b.formed;
   held = λ code h e. let p = end_parts (code + 1) steps s e in absurd (omega (arith, h, above, p.1));
   ends = λ end some e. b.ends end some (end_parts end steps s e).0;
 }
 
-begun_same : (categories : List NamedCategory) (before : Option CharInfo) (steps : List CategoryStep) (s : CategoryStep) (ranges : List CategoryRange) → AreBegun categories before steps ranges → EndBefore s.first steps
+started_same : (categories : List NamedCategory) (before : Option CharInfo) (steps : List CategoryStep) (s : CategoryStep) (ranges : List CategoryRange) → AreBegun categories before steps ranges → EndBefore s.first steps
     → last_info ranges ≡ info_or (default_info categories) s.info → AreBegun categories before (steps ++ s ∷ []) ranges
-begun_same categories before steps s ranges b ends same = record {
+started_same categories before steps s ranges b ends same = record {
   formed = ranges_same (so_far categories before steps) (so_far categories before (steps ++ s ∷ [])) ranges (λ code h. elim (cases_lt code s.first) [
-    | inl low ↦ sym (said_before categories before steps s code low)
-    | inr high ↦ b.held code h (end_later s.first (code + 1) steps (omega (arith, high)) ends) ∙ same ∙ sym (said_after categories before steps s code ends high)
+    | inl low ↦ sym (stated_before categories before steps s code low)
+    | inr high ↦ b.held code h (end_later s.first (code + 1) steps (omega (arith, high)) ends) ∙ same ∙ sym (stated_after categories before steps s code ends high)
   ]) b.formed;
-  held = λ code h e. let p = end_parts (code + 1) steps s e in said_after categories before steps s code ends (omega (arith, p.1)) ∙ sym same;
+  held = λ code h e. let p = end_parts (code + 1) steps s e in stated_after categories before steps s code ends (omega (arith, p.1)) ∙ sym same;
   ends = λ end some e. b.ends end some (end_parts end steps s e).0;
 }
 
@@ -180,16 +180,16 @@ last_before categories before steps s ranges b ends at_zero new = elim (cases_lt
       ∙ ap (λ (ss : List CategoryStep). info_or (default_info categories) (info_from before ss 0)) empty ∙ ap (info_or (default_info categories)) (at_zero zero_is)))
 ]
 
-begun_new : (categories : List NamedCategory) (before : Option CharInfo) (steps : List CategoryStep) (s : CategoryStep) (ranges : List CategoryRange) → AreBegun categories before steps ranges → EndBefore s.first steps
+started_new : (categories : List NamedCategory) (before : Option CharInfo) (steps : List CategoryStep) (s : CategoryStep) (ranges : List CategoryRange) → AreBegun categories before steps ranges → EndBefore s.first steps
     → s.first ≤ code_point_max → (s.first ≡ 0 → before ≡ s.info) → last_info ranges ≢ info_or (default_info categories) s.info
     → AreBegun categories before (steps ++ s ∷ []) (ranges ++ record { first = s.first; info = info_or (default_info categories) s.info } ∷ [])
-begun_new categories before steps s ranges b ends within at_zero new =
+started_new categories before steps s ranges b ends within at_zero new =
     let r : CategoryRange = record { first = s.first; info = info_or (default_info categories) s.info } in
     record {
       formed = ranges_more (so_far categories before steps) (so_far categories before (steps ++ s ∷ [])) ranges r b.formed (last_before categories before steps s ranges b ends at_zero new) within new
-          (said_before categories before steps s) (λ code h. said_after categories before steps s code ends h);
+          (stated_before categories before steps s) (λ code h. stated_after categories before steps s code ends h);
       held = λ code h e. let p = end_parts (code + 1) steps s e in
-          said_after categories before steps s code ends (omega (arith, p.1)) ∙ sym (ap (λ (x : CategoryRange). x.info) (last-append ranges r));
+          stated_after categories before steps s code ends (omega (arith, p.1)) ∙ sym (ap (λ (x : CategoryRange). x.info) (last-append ranges r));
       ends = λ end some e. subst (λ (x : CategoryRange). x.first < end) (sym (last-append ranges r)) (end_parts end steps s e).1;
     }
 
@@ -223,9 +223,9 @@ unwrapped : (found : Option CharInfo) (otherwise : CharInfo) → unwrap_or found
 unwrapped None otherwise = refl
 unwrapped (Some info) otherwise = refl
 
-pub ranges_begun : (categories : List NamedCategory) (steps : List CategoryStep) (ranges : List CategoryRange) (info : CharInfo) → info ≡ info_or (default_info categories) (info_by steps 0)
+pub ranges_started : (categories : List NamedCategory) (steps : List CategoryStep) (ranges : List CategoryRange) (info : CharInfo) → info ≡ info_or (default_info categories) (info_by steps 0)
     → ranges ≡ record { first = 0; info = info } ∷ [] → AreBegun categories (info_by steps 0) [] ranges
-ranges_begun categories steps ranges info is ranges_are =
+ranges_started categories steps ranges info is ranges_are =
     let r : CategoryRange = record { first = 0; info = info } in
     let reported : (code : ℕ) → table_info (so_far categories (info_by steps 0) []) code ≡ info = λ code. info_so_far categories (info_by steps 0) [] code ∙ sym is in
     let only : (i : ℕ) → i < 1 → range_by (r ∷ []) i ≡ r = λ i h. ap (λ (k : ℕ). range_by (r ∷ []) k) (let e : i ≡ 0 = omega (arith, h) in e) in
@@ -255,10 +255,10 @@ ranges_step categories steps i d ranges new info rise in' b info_is same above a
     let ends = taken_end 0 steps i d rise in' in
     let v : info ≡ info_or (default_info categories) s.info = info_is ∙ unwrapped s.info (default_info categories) in
     rw more (elim (cases_lt code_point_max s.first) [
-      | inl high ↦ rw (above high) (begun_above categories before (take i steps) s ranges b high)
+      | inl high ↦ rw (above high) (started_above categories before (take i steps) s ranges b high)
       | inr low ↦ elim (same_info (last_info ranges) info) [
-        | inl kept ↦ rw (same kept) (begun_same categories before (take i steps) s ranges b ends (kept ∙ v))
-        | inr changed ↦ rw (added low changed, v) (begun_new categories before (take i steps) s ranges b ends low (at_zero 0 steps i d rise in') (λ e. changed (e ∙ sym v)))
+        | inl kept ↦ rw (same kept) (started_same categories before (take i steps) s ranges b ends (kept ∙ v))
+        | inr changed ↦ rw (added low changed, v) (started_new categories before (take i steps) s ranges b ends low (at_zero 0 steps i d rise in') (λ e. changed (e ∙ sym v)))
       ]
     ])
 

@@ -30,17 +30,17 @@ undefined_before : (categories : List NamedCategory) (mappings : List (ℕ × Ma
     → first_fault 1 (λ line. mapping_fault categories (char_line line)) lines ≡ first_undefined categories mappings
 undefined_before categories mappings lines kept = sym (ap (first_undefined categories) kept ∙ undefined_in categories lines)
 
-said_by_line : (categories : List NamedCategory) (number : ℕ) (line : CharLine) (others : List (ℕ × Mapping))
+stated_by_line : (categories : List NamedCategory) (number : ℕ) (line : CharLine) (others : List (ℕ × Mapping))
     → all_range_categories categories (map (λ (m : Mapping). (number, m)) (mapped_by line) ++ others) ≡ map (range_categories categories) (mapped_by line) ++ all_range_categories categories others
-said_by_line categories number Nothing others = refl
-said_by_line categories number (Defines category) others = refl
-said_by_line categories number (Maps mapping) others = refl
-said_by_line categories number (Bad kind) others = refl
+stated_by_line categories number Nothing others = refl
+stated_by_line categories number (Defines category) others = refl
+stated_by_line categories number (Maps mapping) others = refl
+stated_by_line categories number (Bad kind) others = refl
 
-said_in : (categories : List NamedCategory) (lines : List (ℕ × List ℕ)) → all_range_categories categories (numbered_mappings lines) ≡ map (range_categories categories) (source_from lines).mappings
-said_in categories [] = refl
-said_in categories (line ∷ lines) = said_by_line categories line.0 (char_line line.1) (numbered_mappings lines)
-    ∙ ap (λ (others : List RangeCategories). map (range_categories categories) (mapped_by (char_line line.1)) ++ others) (said_in categories lines)
+stated_in : (categories : List NamedCategory) (lines : List (ℕ × List ℕ)) → all_range_categories categories (numbered_mappings lines) ≡ map (range_categories categories) (source_from lines).mappings
+stated_in categories [] = refl
+stated_in categories (line ∷ lines) = stated_by_line categories line.0 (char_line line.1) (numbered_mappings lines)
+    ∙ ap (λ (others : List RangeCategories). map (range_categories categories) (mapped_by (char_line line.1)) ++ others) (stated_in categories lines)
     ∙ sym (map-append (range_categories categories) (mapped_by (char_line line.1)) (source_from lines).mappings)
 
 -- ---- the error of the file
@@ -60,11 +60,11 @@ fault_of_mappings lines categories f =
     ∙ ap (λ (o : Option SourceFault). option_or o (option_or (unless_defined categories space_name NoSpace) (first_fault 1 (λ line. mapping_fault categories (char_line line)) lines))) f.default_there
     ∙ ap (λ (o : Option SourceFault). option_or o (first_fault 1 (λ line. mapping_fault categories (char_line line)) lines)) f.space_there
 
-pub mapping_refused : (lines : List (ℕ × List ℕ)) (categories : List NamedCategory) (mappings : List (ℕ × Mapping)) (fault : SourceFault) → first_bad_line [] lines ≡ None → categories ≡ (source_from lines).categories
+pub mapping_rejected : (lines : List (ℕ × List ℕ)) (categories : List NamedCategory) (mappings : List (ℕ × Mapping)) (fault : SourceFault) → first_bad_line [] lines ≡ None → categories ≡ (source_from lines).categories
     → unless_defined categories default_name NoDefault ≡ None → unless_defined categories space_name NoSpace ≡ None
     → mappings ≡ numbered_mappings lines → IsMemoryOr fault (first_undefined categories mappings ≡ Some fault) → IsMemoryOr fault (char_source_from lines ≡ Err fault)
-mapping_refused lines categories mappings fault fine are d s kept (inl memory) = inl memory
-mapping_refused lines categories mappings fault fine are d s kept (inr cause) =
+mapping_rejected lines categories mappings fault fine are d s kept (inl memory) = inl memory
+mapping_rejected lines categories mappings fault fine are d s kept (inr cause) =
     inr (ap (λ (o : Option SourceFault). source_unless o (source_from lines))
     (fault_of_mappings lines categories (record { lines_fine = fine; categories_are = are; default_there = d; space_there = s }) ∙ undefined_before categories mappings lines kept ∙ cause))
 
@@ -82,24 +82,24 @@ find-range_categories categories code (m ∷ ms) = elim (covers code m) as (λ b
   | false ↦ find-range_categories categories code ms
 ]
 
-info_said : (categories : List NamedCategory) (found : Option Mapping)
+info_stated : (categories : List NamedCategory) (found : Option Mapping)
     → info_or (default_info categories) (option_map (λ (s : RangeCategories). s.info) (option_map (range_categories categories) found))
     ≡ option_map_or (λ (m : Mapping). info_of_names categories m.first m.others) found (info_of_names categories default_name [])
-info_said categories None = refl
-info_said categories (Some m) = refl
+info_stated categories None = refl
+info_stated categories (Some m) = refl
 
-said_last : (categories : List NamedCategory) (ms : List Mapping) (code : ℕ)
+stated_last : (categories : List NamedCategory) (ms : List Mapping) (code : ℕ)
     → info_or (default_info categories) (last_categories (map (range_categories categories) ms) code)
     ≡ option_map_or (λ (m : Mapping). info_of_names categories m.first m.others) (find (covers code) (reverse ms)) (info_of_names categories default_name [])
-said_last categories ms code =
+stated_last categories ms code =
     ap (λ (l : List RangeCategories). info_or (default_info categories) (option_map (λ (s : RangeCategories). s.info) (find (applies_to code) l))) (reverse-map (range_categories categories) ms)
-    ∙ ap (λ (o : Option RangeCategories). info_or (default_info categories) (option_map (λ (s : RangeCategories). s.info) o)) (find-range_categories categories code (reverse ms)) ∙ info_said categories (find (covers code) (reverse ms))
+    ∙ ap (λ (o : Option RangeCategories). info_or (default_info categories) (option_map (λ (s : RangeCategories). s.info) o)) (find-range_categories categories code (reverse ms)) ∙ info_stated categories (find (covers code) (reverse ms))
 
 table_of : (lines : List (ℕ × List ℕ)) (categories : List NamedCategory) (mapped : List MappedRange) (steps : List CategoryStep) → categories ≡ (source_from lines).categories
     → map range_categories_by mapped ≡ map (range_categories categories) (source_from lines).mappings → IsCoverage (map range_categories_by mapped) steps → IsTableOf (source_from lines) (record { categories = categories; steps = steps })
 table_of lines categories mapped steps are mappings_are covered = record {
   categories = are;
-  infos = λ code. ap (info_or (default_info categories)) (covered.says code ∙ ap (λ (l : List RangeCategories). last_categories l code) mappings_are) ∙ said_last categories (source_from lines).mappings code
+  infos = λ code. ap (info_or (default_info categories)) (covered.says code ∙ ap (λ (l : List RangeCategories). last_categories l code) mappings_are) ∙ stated_last categories (source_from lines).mappings code
       ∙ ap (λ (cs : List NamedCategory). option_map_or (λ (m : Mapping). info_of_names cs m.first m.others) (find (covers code) (reverse (source_from lines).mappings)) (info_of_names cs default_name [])) are;
 }
 
@@ -111,5 +111,5 @@ table_read lines categories mappings mapped steps fine are d s kept named all co
   source_from lines,
   ap (λ (o : Option SourceFault). source_unless o (source_from lines))
       (fault_of_mappings lines categories (record { lines_fine = fine; categories_are = are; default_there = d; space_there = s }) ∙ undefined_before categories mappings lines kept ∙ named),
-  table_of lines categories mapped steps are (all ∙ ap (all_range_categories categories) kept ∙ said_in categories lines) covered,
+  table_of lines categories mapped steps are (all ∙ ap (all_range_categories categories) kept ∙ stated_in categories lines) covered,
 )

@@ -13,10 +13,10 @@ use Rattle.mj_model.specs.Connection.{is_pair}
 use Rattle.mj_model.specs.Dictionary.{first_outside}
 use Rattle.mj_model.specs.FirstFault.{IsMemoryOr}
 use Rattle.mj_model.specs.Lists.{IsMember}
-use Rattle.mj_model.specs.Lexicon.{Row, Accepted, Refused, row_from, Reading, ReadsAs}
+use Rattle.mj_model.specs.Lexicon.{Row, Accepted, Rejected, row_from, Reading, ReadsAs}
 use Rattle.mj_model.specs.UnkDef.{accept_defined, unk_outcome, rows_named, rows_by_category, first_without_rows, unknown_from, IsUnkDef, rows_or, check_outside, IsUnkWithin}
 use Rattle.mj_model.proofs.AcceptedRows.{IsRowOf, OnRow, OnAccepted, row_is, LinesRise, AreReadRows, rows_read}
-use Rattle.mj_model.proofs.Members.{in_map, map_in, in_filter, filter_in, in_flat_map, flat_map_in, each_holds, none_stands, holds_in}
+use Rattle.mj_model.proofs.Members.{in_map, map_in, in_filter, filter_in, in_flat_map, flat_map_in, each_holds, none_appears, holds_in}
 use Rattle.char_def.specs.Outside.{is_outside, lines_outside, all_lines_outside, IsLeast}
 use Rattle.char_def.proofs.AcceptedChars.{number_within}
 
@@ -28,18 +28,18 @@ pub record IsUnkRow (categories : List NamedCategory) (row : Row) : Type 0 where
   pub cost_fits : IsWithin (2 ^ 15) row.cost
 
 named_by : (categories : List NamedCategory) (number : ℕ) (row : Row) (b : Bool) → is_defined categories row.surface ≡ b → IsRowOf number row
-    → OnAccepted (λ (r : Row). (r.line ≡ number) × IsUnkRow categories r) (cond b (Accepted row) (Refused NoSuchCategory))
+    → OnAccepted (λ (r : Row). (r.line ≡ number) × IsUnkRow categories r) (cond b (Accepted row) (Rejected NoSuchCategory))
 named_by categories number row true named is = (is.line_is, record { named = named; cost_fits = is.cost_fits })
 named_by categories number row false named is = tt
 
-judged_by : (categories : List NamedCategory) (number : ℕ) (found : Option Row) → OnRow (IsRowOf number) found → OnAccepted (λ (r : Row). (r.line ≡ number) × IsUnkRow categories r) (accept_defined categories found)
-judged_by categories number None h = tt
-judged_by categories number (Some row) h = named_by categories number row (is_defined categories row.surface) refl h
+tested_by : (categories : List NamedCategory) (number : ℕ) (found : Option Row) → OnRow (IsRowOf number) found → OnAccepted (λ (r : Row). (r.line ≡ number) × IsUnkRow categories r) (accept_defined categories found)
+tested_by categories number None h = tt
+tested_by categories number (Some row) h = named_by categories number row (is_defined categories row.surface) refl h
 
 -- the rows of an accepted `unk.def`
 pub unk_rows : (categories : List NamedCategory) (bytes : List ℕ) (reading : Reading) → ReadsAs (unk_outcome categories) 2 0 bytes (Ok reading) → AreReadRows (IsUnkRow categories) 0 reading.rows
 unk_rows categories bytes reading h =
-    rows_read (unk_outcome categories) (IsUnkRow categories) (λ number parts. judged_by categories number (row_from number parts) (row_is number parts)) 2 0 bytes reading h
+    rows_read (unk_outcome categories) (IsUnkRow categories) (λ number parts. tested_by categories number (row_from number parts) (row_is number parts)) 2 0 bytes reading h
 
 -- ---- the rows and the rows of each category have the same lines outside
 
@@ -122,9 +122,9 @@ none_is sizes (row ∷ rows) h = none_by sizes row rows (is_pair sizes row.right
 
 -- ---- the file
 
-abbrev rows_told : Result (List (List Row)) SourceFault → List (List Row)
-rows_told (Ok unknown) = unknown
-rows_told (Err fault) = []
+abbrev rows_reported : Result (List (List Row)) SourceFault → List (List Row)
+rows_reported (Ok unknown) = unknown
+rows_reported (Err fault) = []
 
 -- the reading of an accepted `unk.def`
 pub record IsReadFrom (categories : List NamedCategory) (bytes : List ℕ) (unknown : List (List Row)) : Type 0 where
@@ -136,7 +136,7 @@ pub record IsReadFrom (categories : List NamedCategory) (bytes : List ℕ) (unkn
 rows_if_none : (unknown : List (List Row)) (rows : List (List Row)) (b : Bool)
     → ◌≡◌ {A = Result (List (List Row)) SourceFault} (Ok unknown) (cond b (Err (record { file = 2; line = 0; kind = MissingCategory (first_without_rows rows) })) (Ok rows)) → unknown ≡ rows
 rows_if_none unknown rows true h = absurd (cc)
-rows_if_none unknown rows false h = ap rows_told h
+rows_if_none unknown rows false h = ap rows_reported h
 
 read_from_by : (categories : List NamedCategory) (bytes : List ℕ) (unknown : List (List Row)) (reading : Result Reading SourceFault) → ReadsAs (unk_outcome categories) 2 0 bytes reading → Ok unknown ≡ unknown_from categories reading
     → IsReadFrom categories bytes unknown
@@ -154,14 +154,14 @@ handle_result sizes categories bytes fault (Err found) reads h = (Err found, rea
 handle_result sizes categories bytes fault (Ok lines) reads h = (Ok lines, reads, ap (check_outside sizes lines.rows) h)
 
 -- an error of the reader is the first one
-pub reader_told : (sizes : MatrixSizes) (categories : List NamedCategory) (bytes : List ℕ) (fault : SourceFault) → IsMemoryOr fault (IsUnkDef categories bytes (Err fault)) → IsMemoryOr fault (IsUnkWithin sizes categories bytes (Err fault))
-reader_told sizes categories bytes fault (inl memory) = inl memory
-reader_told sizes categories bytes fault (inr cause) = inr (handle_result sizes categories bytes fault cause.0 cause.1 cause.2)
+pub reader_reported : (sizes : MatrixSizes) (categories : List NamedCategory) (bytes : List ℕ) (fault : SourceFault) → IsMemoryOr fault (IsUnkDef categories bytes (Err fault)) → IsMemoryOr fault (IsUnkWithin sizes categories bytes (Err fault))
+reader_reported sizes categories bytes fault (inl memory) = inl memory
+reader_reported sizes categories bytes fault (inr cause) = inr (handle_result sizes categories bytes fault cause.0 cause.1 cause.2)
 
 -- the least line outside is the first error, if the reader finds none
-pub line_told : (sizes : MatrixSizes) (categories : List NamedCategory) (bytes : List ℕ) (unknown : List (List Row)) (line : ℕ) → IsUnkDef categories bytes (Ok unknown) → IsLeast (all_lines_outside sizes unknown) line
+pub line_reported : (sizes : MatrixSizes) (categories : List NamedCategory) (bytes : List ℕ) (unknown : List (List Row)) (line : ℕ) → IsUnkDef categories bytes (Ok unknown) → IsLeast (all_lines_outside sizes unknown) line
     → IsUnkWithin sizes categories bytes (Err (record { file = 2; line = line; kind = IdOutside }))
-line_told sizes categories bytes unknown line h least =
+line_reported sizes categories bytes unknown line h least =
     let r = read_from categories bytes unknown h in
     let rows = r.reading.rows in
     let all = all_lines_outside sizes (rows_by_category categories rows) in
@@ -174,13 +174,13 @@ line_told sizes categories bytes unknown line h least =
     (Ok r.reading, r.reads, sym (ap (check_outside sizes rows) (sym r.none_missing) ∙ ap (λ (o : Option SourceFault). rows_or o unknown) first))
 
 -- without a line outside there is no error
-pub none_told : (sizes : MatrixSizes) (categories : List NamedCategory) (bytes : List ℕ) (unknown : List (List Row)) → IsUnkDef categories bytes (Ok unknown) → all_lines_outside sizes unknown ≡ [] → IsUnkWithin sizes categories bytes (Ok unknown)
-none_told sizes categories bytes unknown h none =
+pub none_reported : (sizes : MatrixSizes) (categories : List NamedCategory) (bytes : List ℕ) (unknown : List (List Row)) → IsUnkDef categories bytes (Ok unknown) → all_lines_outside sizes unknown ≡ [] → IsUnkWithin sizes categories bytes (Ok unknown)
+none_reported sizes categories bytes unknown h none =
     let r = read_from categories bytes unknown h in
     let rows = r.reading.rows in
     let u = unk_rows categories bytes r.reading r.reads in
     let here = ap (all_lines_outside sizes) (sym r.rows_are) ∙ none in
-    let empty = none_stands (lines_outside sizes rows) (λ n i. subst (λ (ns : List ℕ). IsMember ns n) here (to_categories sizes categories rows n u.each i)) in
+    let empty = none_appears (lines_outside sizes rows) (λ n i. subst (λ (ns : List ℕ). IsMember ns n) here (to_categories sizes categories rows n u.each i)) in
     (Ok r.reading, r.reads, sym (ap (check_outside sizes rows) (sym r.none_missing) ∙ ap (λ (o : Option SourceFault). rows_or o unknown) (none_is sizes rows empty)))
 
 -- ---- an accepted file has no line outside

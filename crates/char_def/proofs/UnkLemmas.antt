@@ -14,55 +14,55 @@ use Rattle.mj_model.specs.declared.source_fault.SourceKind.{SourceKind}
 use Rattle.mj_model.specs.declared.source_fault.SourceKind.TheVariants.{NoSuchCategory, TooManyEntries, MissingCategory, Memory}
 use Rattle.mj_model.specs.FirstFault.{IsMemoryOr}
 use Rattle.mj_model.specs.Lines.{numbered_lines}
-use Rattle.mj_model.specs.Lexicon.{Row, row_of, rows_of, Reading, ReadsAs, Outcome, Blank, Skipped, Refused, Accepted, IsOutcome, is_blank, not_text, too_few, has_parts, row_from}
+use Rattle.mj_model.specs.Lexicon.{Row, row_of, rows_of, Reading, ReadsAs, Outcome, Blank, Skipped, Rejected, Accepted, IsOutcome, is_blank, not_text, too_few, has_parts, row_from}
 use Rattle.mj_model.specs.CharDef.{NamedCategory, is_defined, category_number}
 use Rattle.mj_model.specs.UnkDef.{accept_defined, unk_outcome, rows_by_category, first_without_rows, check_missing, IsUnkDef}
 use Rattle.lex_source.specs.Steps.{IsReadLine, IsRejectedLine, IsReadUpTo, accept_any, row_outcome}
-use Rattle.lex_source.proofs.LexiconLemmas.{read_none, line_taken, line_refused, all_read}
+use Rattle.lex_source.proofs.LexiconLemmas.{read_none, line_taken, line_rejected, all_read}
 use Rattle.char_def.specs.Definitions.{HasNumber}
 use Rattle.char_def.specs.UnkRows.{lists_are, HasAdded, HasReadUnk}
 
 -- ---- the outcome of a line
 
 -- the outcome of a line whose row is accepted with any surface
-rejudged : List NamedCategory → Outcome → Outcome
-rejudged categories Blank = Blank
-rejudged categories Skipped = Skipped
-rejudged categories (Refused kind) = Refused kind
-rejudged categories (Accepted row) = accept_defined categories (Some row)
+retested : List NamedCategory → Outcome → Outcome
+retested categories Blank = Blank
+retested categories Skipped = Skipped
+retested categories (Rejected kind) = Rejected kind
+retested categories (Accepted row) = accept_defined categories (Some row)
 
-rejudged_row : (categories : List NamedCategory) (found : Option Row) → accept_defined categories found ≡ rejudged categories (accept_any found)
-unfolding rejudged
-rejudged_row categories None = refl
-rejudged_row categories (Some row) = refl
+retested_row : (categories : List NamedCategory) (found : Option Row) → accept_defined categories found ≡ retested categories (accept_any found)
+unfolding retested
+retested_row categories None = refl
+retested_row categories (Some row) = refl
 
-rejudge : (categories : List NamedCategory) (number : ℕ) (line : List ℕ) (o : Outcome) → IsOutcome row_outcome number line o → IsOutcome (unk_outcome categories) number line (rejudged categories o)
-unfolding rejudged
-rejudge categories number line _ (is_blank blank) = is_blank blank
-rejudge categories number line _ (not_text some bad) = not_text some bad
-rejudge categories number line _ (too_few some utf8 fields are few) = too_few some utf8 fields are few
-rejudge categories number line _ (has_parts some utf8 parts are) =
-    subst (λ (o : Outcome). IsOutcome (unk_outcome categories) number line o) (rejudged_row categories (row_from number parts)) (has_parts some utf8 parts are)
+retest : (categories : List NamedCategory) (number : ℕ) (line : List ℕ) (o : Outcome) → IsOutcome row_outcome number line o → IsOutcome (unk_outcome categories) number line (retested categories o)
+unfolding retested
+retest categories number line _ (is_blank blank) = is_blank blank
+retest categories number line _ (not_text some bad) = not_text some bad
+retest categories number line _ (too_few some utf8 fields are few) = too_few some utf8 fields are few
+retest categories number line _ (has_parts some utf8 parts are) =
+    subst (λ (o : Outcome). IsOutcome (unk_outcome categories) number line o) (retested_row categories (row_from number parts)) (has_parts some utf8 parts are)
 
 pub blank_taken : (categories : List NamedCategory) (number : ℕ) (line : List ℕ) (held : ℕ) → IsOutcome row_outcome number line Blank → IsReadLine (unk_outcome categories) number line held false []
-unfolding rejudged
-blank_taken categories number line held is = record { outcome = Blank; is = rejudge categories number line Blank is; fits = λ file. refl; appended = refl; counted = refl }
+unfolding retested
+blank_taken categories number line held is = record { outcome = Blank; is = retest categories number line Blank is; fits = λ file. refl; appended = refl; counted = refl }
 
-pub refused_before : (categories : List NamedCategory) (number : ℕ) (line : List ℕ) (held : ℕ) (kind : SourceKind) → IsOutcome row_outcome number line (Refused kind) → IsRejectedLine (unk_outcome categories) number line held kind
-unfolding rejudged
-refused_before categories number line held kind is = record { outcome = Refused kind; is = rejudge categories number line (Refused kind) is; rejected = λ file. refl }
+pub rejected_before : (categories : List NamedCategory) (number : ℕ) (line : List ℕ) (held : ℕ) (kind : SourceKind) → IsOutcome row_outcome number line (Rejected kind) → IsRejectedLine (unk_outcome categories) number line held kind
+unfolding retested
+rejected_before categories number line held kind is = record { outcome = Rejected kind; is = retest categories number line (Rejected kind) is; rejected = λ file. refl }
 
 named_row : (categories : List NamedCategory) (number : ℕ) (line : List ℕ) (row : Row) → IsOutcome row_outcome number line (Accepted row) → is_defined categories row.surface ≡ true → IsOutcome (unk_outcome categories) number line (Accepted row)
-unfolding rejudged
+unfolding retested
 named_row categories number line row is defined =
-    subst (λ (o : Outcome). IsOutcome (unk_outcome categories) number line o) (cond-true (is_defined categories row.surface) (Accepted row) (Refused NoSuchCategory) defined) (rejudge categories number line (Accepted row) is)
+    subst (λ (o : Outcome). IsOutcome (unk_outcome categories) number line o) (cond-true (is_defined categories row.surface) (Accepted row) (Rejected NoSuchCategory) defined) (retest categories number line (Accepted row) is)
 
-pub unnamed_refused : (categories : List NamedCategory) (number : ℕ) (line : List ℕ) (held : ℕ) (row : Row) → IsOutcome row_outcome number line (Accepted row) → is_defined categories row.surface ≡ false
+pub unnamed_rejected : (categories : List NamedCategory) (number : ℕ) (line : List ℕ) (held : ℕ) (row : Row) → IsOutcome row_outcome number line (Accepted row) → is_defined categories row.surface ≡ false
     → IsRejectedLine (unk_outcome categories) number line held NoSuchCategory
-unfolding rejudged
-unnamed_refused categories number line held row is undefined = record {
-  outcome = Refused NoSuchCategory;
-  is = subst (λ (o : Outcome). IsOutcome (unk_outcome categories) number line o) (cond-false (is_defined categories row.surface) (Accepted row) (Refused NoSuchCategory) undefined) (rejudge categories number line (Accepted row) is);
+unfolding retested
+unnamed_rejected categories number line held row is undefined = record {
+  outcome = Rejected NoSuchCategory;
+  is = subst (λ (o : Outcome). IsOutcome (unk_outcome categories) number line o) (cond-false (is_defined categories row.surface) (Accepted row) (Rejected NoSuchCategory) undefined) (retest categories number line (Accepted row) is);
   rejected = λ file. refl;
 }
 
@@ -80,10 +80,10 @@ row_taken categories number line held row is defined fits = record {
   counted = refl;
 }
 
-pub full_refused : (categories : List NamedCategory) (number : ℕ) (line : List ℕ) (held : ℕ) (row : Row) → IsOutcome row_outcome number line (Accepted row) → is_defined categories row.surface ≡ true → ltb held ENTRIES_MAX ≡ false
+pub full_rejected : (categories : List NamedCategory) (number : ℕ) (line : List ℕ) (held : ℕ) (row : Row) → IsOutcome row_outcome number line (Accepted row) → is_defined categories row.surface ≡ true → ltb held ENTRIES_MAX ≡ false
     → IsRejectedLine (unk_outcome categories) number line held TooManyEntries
 unfolding too_many
-full_refused categories number line held row is defined full = record {
+full_rejected categories number line held row is defined full = record {
   outcome = Accepted row;
   is = named_row categories number line row is defined;
   rejected = λ file. cond-false (ltb held ENTRIES_MAX) None (too_many file number) full;
@@ -163,16 +163,16 @@ nothing_held categories number line held lists is = record {
   added = λ rows are. are ∙ ap (rows_by_category categories) (sym (append-nil rows));
 }
 
-pub line_bad : (categories : List NamedCategory) (number : ℕ) (line : List ℕ) (held : ℕ) (kind : SourceKind) → (kind ≡ Memory) ⊎ IsOutcome row_outcome number line (Refused kind)
+pub line_bad : (categories : List NamedCategory) (number : ℕ) (line : List ℕ) (held : ℕ) (kind : SourceKind) → (kind ≡ Memory) ⊎ IsOutcome row_outcome number line (Rejected kind)
     → (kind ≡ Memory) ⊎ IsRejectedLine (unk_outcome categories) number line held kind
 line_bad categories number line held kind (inl memory) = inl memory
-line_bad categories number line held kind (inr cause) = inr (refused_before categories number line held kind cause)
+line_bad categories number line held kind (inr cause) = inr (rejected_before categories number line held kind cause)
 
 -- ---- the lines read so far
 
-pub unk_begun : (categories : List NamedCategory) (bytes : List ℕ) (left : List (ℕ × List ℕ)) (count : ℕ) (lists : List (Vec Record Global)) → left ≡ numbered_lines bytes → lists_are lists ≡ replicate count []
+pub unk_started : (categories : List NamedCategory) (bytes : List ℕ) (left : List (ℕ × List ℕ)) (count : ℕ) (lists : List (Vec Record Global)) → left ≡ numbered_lines bytes → lists_are lists ≡ replicate count []
     → count ≡ length categories → HasReadUnk categories (numbered_lines bytes) left 0 lists
-unk_begun categories bytes left count lists is empty count_is = record {
+unk_started categories bytes left count lists is empty count_is = record {
   held_rows = [];
   read = subst (λ (ls : List (ℕ × List ℕ)). IsReadUpTo (unk_outcome categories) 0 (numbered_lines bytes) ls [] 0) (sym is) (read_none (unk_outcome categories) 0 bytes);
   held_is = refl;
@@ -192,12 +192,12 @@ unk_more categories all left lines number line held now old new r is a = record 
   lists_is = a.added r.held_rows r.lists_is;
 }
 
-pub unk_refused : (categories : List NamedCategory) (bytes : List ℕ) (left lines : List (ℕ × List ℕ)) (number : ℕ) (line : List ℕ) (held : ℕ) (kind : SourceKind) (lists : List (Vec Record Global))
+pub unk_rejected : (categories : List NamedCategory) (bytes : List ℕ) (left lines : List (ℕ × List ℕ)) (number : ℕ) (line : List ℕ) (held : ℕ) (kind : SourceKind) (lists : List (Vec Record Global))
     → HasReadUnk categories (numbered_lines bytes) lines held lists → lines ≡ (number, line) ∷ left → (kind ≡ Memory) ⊎ IsRejectedLine (unk_outcome categories) number line held kind
     → (kind ≡ Memory) ⊎ ReadsAs (unk_outcome categories) 2 0 bytes (Err (record { file = 2; line = number; kind = kind }))
-unk_refused categories bytes left lines number line held kind lists r is (inl memory) = inl memory
-unk_refused categories bytes left lines number line held kind lists r is (inr cause) =
-    inr (line_refused (unk_outcome categories) 2 0 bytes number line left lines r.held_rows 0 held kind is r.read (r.held_is ∙ (let e : length r.held_rows ≡ 0 + length r.held_rows = omega arith in e)) cause)
+unk_rejected categories bytes left lines number line held kind lists r is (inl memory) = inl memory
+unk_rejected categories bytes left lines number line held kind lists r is (inr cause) =
+    inr (line_rejected (unk_outcome categories) 2 0 bytes number line left lines r.held_rows 0 held kind is r.read (r.held_is ∙ (let e : length r.held_rows ≡ 0 + length r.held_rows = omega arith in e)) cause)
 
 pub unk_read : (categories : List NamedCategory) (bytes : List ℕ) (lines : List (ℕ × List ℕ)) (held : ℕ) (lists : List (Vec Record Global)) → HasReadUnk categories (numbered_lines bytes) lines held lists → lines ≡ []
     → (reading : Reading) × ReadsAs (unk_outcome categories) 2 0 bytes (Ok reading) × (lists_are lists ≡ rows_by_category categories reading.rows)
@@ -223,15 +223,15 @@ no_list (x ∷ xs) n is before = first_is (x ∷ xs) (length (x ∷ xs)) x (omeg
 
 -- ---- the whole file
 
-pub refused_whole : (categories : List NamedCategory) (bytes : List ℕ) (fault : SourceFault) → IsMemoryOr fault (ReadsAs (unk_outcome categories) 2 0 bytes (Err fault)) → IsMemoryOr fault (IsUnkDef categories bytes (Err fault))
-refused_whole categories bytes fault (inl memory) = inl memory
-refused_whole categories bytes fault (inr cause) = inr (Err fault, cause, refl)
+pub rejected_whole : (categories : List NamedCategory) (bytes : List ℕ) (fault : SourceFault) → IsMemoryOr fault (ReadsAs (unk_outcome categories) 2 0 bytes (Err fault)) → IsMemoryOr fault (IsUnkDef categories bytes (Err fault))
+rejected_whole categories bytes fault (inl memory) = inl memory
+rejected_whole categories bytes fault (inr cause) = inr (Err fault, cause, refl)
 
 -- what is read, and how many categories there are
-pub missing_refused : (categories : List NamedCategory) (bytes : List ℕ) (lists : List (Vec Record Global)) (missing : ℕ)
+pub missing_rejected : (categories : List NamedCategory) (bytes : List ℕ) (lists : List (Vec Record Global)) (missing : ℕ)
     → (reading : Reading) × ReadsAs (unk_outcome categories) 2 0 bytes (Ok reading) × (lists_are lists ≡ rows_by_category categories reading.rows) → missing ≡ first_without_rows (lists_are lists) → missing < length lists
     → IsUnkDef categories bytes (Err (record { file = 2; line = 0; kind = MissingCategory missing }))
-missing_refused categories bytes lists missing r is in' =
+missing_rejected categories bytes lists missing r is in' =
     let u : List (List Row) = lists_are lists in
     let long : length u ≡ length lists = length-map lists (λ (list : Vec Record Global). rows_of list.items) in
     let low : first_without_rows u < length u = omega (arith, is) in

@@ -150,7 +150,7 @@ fn with_file_tip(alloc: Global, text: &str, word: &str) -> Result<String, AllocE
 }
 
 impl From<AllocError> for OptionsFault {
-    fn from(_refused: AllocError) -> OptionsFault {
+    fn from(_error: AllocError) -> OptionsFault {
         OptionsFault::Memory
     }
 }

@@ -9,7 +9,7 @@ use Rattle.mj_model.specs.declared.matrix_sizes.MatrixSizes.{MatrixSizes}
 use Rattle.mj_model.specs.declared.source_fault.SourceFault.{SourceFault}
 use Rattle.mj_model.specs.declared.source_fault.SourceKind.TheVariants.{SurfaceTooLong}
 use Rattle.mj_model.specs.Dictionary.{AreLexicons, IsLexiconOf, lexeme_of, next_file}
-use Rattle.mj_model.specs.Lexicon.{Row, Parts, Outcome, Blank, Skipped, Refused, Accepted, IsOutcome, AreOutcomes, IsLexicon, Reading, accept_short, accepted_rows, first_rejected, lexicon_outcome, reading_unless, row_from}
+use Rattle.mj_model.specs.Lexicon.{Row, Parts, Outcome, Blank, Skipped, Rejected, Accepted, IsOutcome, AreOutcomes, IsLexicon, Reading, accept_short, accepted_rows, first_rejected, lexicon_outcome, reading_unless, row_from}
 use Rattle.mj_model.specs.Lines.{numbered_lines}
 use Rattle.mj_model.specs.Numbers.{context_id, cost}
 use Rattle.mj_model.specs.Tables.{HasText, Lexeme}
@@ -31,7 +31,7 @@ row_by line parts (Some left) None price u = tt
 row_by line parts (Some left) (Some right) None u = tt
 row_by line parts (Some left) (Some right) (Some z) u = u
 
-short_by : (row : Row) (b : Bool) → IsTextRow row → OnAccepted IsTextRow (cond b (Accepted row) (Refused SurfaceTooLong))
+short_by : (row : Row) (b : Bool) → IsTextRow row → OnAccepted IsTextRow (cond b (Accepted row) (Rejected SurfaceTooLong))
 short_by row true u = u
 short_by row false u = tt
 
@@ -61,7 +61,7 @@ of_outcomes [] (o ∷ os) h = absurd h
 of_outcomes (line ∷ lines) [] h = absurd h
 of_outcomes (line ∷ lines) (Blank ∷ os) h = of_outcomes lines os h.1
 of_outcomes (line ∷ lines) (Skipped ∷ os) h = of_outcomes lines os h.1
-of_outcomes (line ∷ lines) (Refused kind ∷ os) h = of_outcomes lines os h.1
+of_outcomes (line ∷ lines) (Rejected kind ∷ os) h = of_outcomes lines os h.1
 of_outcomes (line ∷ lines) (Accepted row ∷ os) h = (of_outcome line.0 line.1 (Accepted row) h.0, of_outcomes lines os h.1)
 
 of_reading : (rejected : Option SourceFault) (os : List Outcome) (lines : Reading) → ◌≡◌ {A = Result Reading SourceFault} (Ok lines) (reading_unless rejected os)

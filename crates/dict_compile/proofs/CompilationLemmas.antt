@@ -56,8 +56,8 @@ module _ (s : Sources) (parts : SourceParts) (h : AreParts s parts) (fit : FitTo
   abbrev tables : Tables
   tables = tables_with parts.matrix parts.chars parts.unknown ordered
 
-  say_the_same : HaveSameMeaning tables (system_tables h.connection h.chars parts.unknown (lexemes_of ordered))
-  say_the_same = record {
+  mean_the_same : HaveSameMeaning tables (system_tables h.connection h.chars parts.unknown (lexemes_of ordered))
+  mean_the_same = record {
     kind = refl;
     sizes = h.matrix.sizes;
     connection = costs_are s.matrix.now h.connection parts.matrix h.is_connection h.matrix;
@@ -80,7 +80,7 @@ module _ (s : Sources) (parts : SourceParts) (h : AreParts s parts) (fit : FitTo
     are_unknown = h.unknown;
     are_rows = h.rows;
     is_lexicon = (ordered, o, refl);
-    tables = same_trans t tables (system_tables h.connection h.chars parts.unknown (lexemes_of ordered)) same say_the_same;
+    tables = same_trans t tables (system_tables h.connection h.chars parts.unknown (lexemes_of ordered)) same mean_the_same;
   }
 
   pub tokens_are : (t : Tables) → HaveSameMeaning t tables → system_tokens t ≡ tokens_of (all_rows ordered parts.unknown)
@@ -135,11 +135,11 @@ may_be_full s parts fault h fit full is =
     let t = tables_with parts.matrix parts.chars parts.unknown full.0 in
     inr (t, have_tables s parts h fit full.0 full.1 t (same_self t), (full.2, is))
 
-pub refusal : (s : Sources) (parts : SourceParts) (fault : SourceFault) → AreParts s parts → FitTogether parts → IsImageError parts fault → IsMemoryOr fault (IsCompilationCause s fault)
-refusal s parts fault h fit (inl memory) = inl memory
-refusal s parts fault h fit (inr (inl large)) = inr (too_large s parts fault h fit large.0 large.1)
-refusal s parts fault h fit (inr (inr full)) = inr (may_be_full s parts fault h fit full.0 full.1)
+pub compile_error : (s : Sources) (parts : SourceParts) (fault : SourceFault) → AreParts s parts → FitTogether parts → IsImageError parts fault → IsMemoryOr fault (IsCompilationCause s fault)
+compile_error s parts fault h fit (inl memory) = inl memory
+compile_error s parts fault h fit (inr (inl large)) = inr (too_large s parts fault h fit large.0 large.1)
+compile_error s parts fault h fit (inr (inr full)) = inr (may_be_full s parts fault h fit full.0 full.1)
 
-pub source_refused : (s : Sources) (fault : SourceFault) → IsMemoryOr fault (IsSourcesFault s fault) → IsMemoryOr fault (IsCompilationCause s fault)
-source_refused s fault (inl memory) = inl memory
-source_refused s fault (inr h) = inr (inl (inl h))
+pub source_rejected : (s : Sources) (fault : SourceFault) → IsMemoryOr fault (IsSourcesFault s fault) → IsMemoryOr fault (IsCompilationCause s fault)
+source_rejected s fault (inl memory) = inl memory
+source_rejected s fault (inr h) = inr (inl (inl h))

@@ -19,7 +19,7 @@ use Rattle.dict_compile.specs.declared.parts.SourceParts.{SourceParts}
 use Rattle.dict_compile.specs.Results.{IsRejectedFor, IsReportedFor}
 use Rattle.dict_compile.specs.Images.{IsImageOf, IsImageError}
 use Rattle.dict_compile.specs.Parts.{AreParts, FitTogether}
-use Rattle.dict_compile.proofs.CompilationLemmas.{is_compilation, refusal, same_tokens, same_trans}
+use Rattle.dict_compile.proofs.CompilationLemmas.{is_compilation, compile_error, same_tokens, same_trans}
 use Rattle.dict_compile.proofs.OrderLemmas.{one_lexicon}
 use Rattle.dict_compile.proofs.SourceFaults.{fault_is_one, lexicons_one, no_tables, one_value, rows_along, same_read, unk_along}
 
@@ -57,13 +57,13 @@ tables_are_one s t u h k =
 -- ---- the first error
 
 -- the error that is reported for invalid sources
-pub told_for : (s : Sources) (fault told : SourceFault) → IsCompilationFault s fault → IsMemoryOr told (IsCompilationCause s told) → IsReportedFor fault told
-told_for s fault told h (inl memory) = inr (inl memory)
-told_for s fault told (inl h) (inr (inl (inl k))) = inl (fault_is_one s told fault k h)
-told_for s fault told (inl h) (inr (inl (inr k))) = absurd (no_tables s fault k.0 h k.1)
-told_for s fault told (inr h) (inr (inl (inl k))) = absurd (no_tables s told h.0 k h.1)
-told_for s fault told (inr h) (inr (inl (inr k))) = inl (k.2.1 ∙ sym h.2.1)
-told_for s fault told h (inr (inr k)) = inr (inr (ap (λ (f : SourceFault). f.kind) k.2.1))
+pub reported_for : (s : Sources) (fault reported : SourceFault) → IsCompilationFault s fault → IsMemoryOr reported (IsCompilationCause s reported) → IsReportedFor fault reported
+reported_for s fault reported h (inl memory) = inr (inl memory)
+reported_for s fault reported (inl h) (inr (inl (inl k))) = inl (fault_is_one s reported fault k h)
+reported_for s fault reported (inl h) (inr (inl (inr k))) = absurd (no_tables s fault k.0 h k.1)
+reported_for s fault reported (inr h) (inr (inl (inl k))) = absurd (no_tables s reported h.0 k h.1)
+reported_for s fault reported (inr h) (inr (inl (inr k))) = inl (k.2.1 ∙ sym h.2.1)
+reported_for s fault reported h (inr (inr k)) = inr (inr (ap (λ (f : SourceFault). f.kind) k.2.1))
 
 pub few_or_large : (n m : ℕ) → n ≡ m → n < feature_bytes_end → feature_bytes_end ≤ m → ⊥
 few_or_large n m e few large = omega (arith, e, few, large)
@@ -79,7 +79,7 @@ pub not_compiled : (s : Sources) (image : List ℕ) (entries skipped : ℕ) (fau
 not_compiled s image entries skipped fault c h = not_both_of s (image_tables image) fault c.have c.compiled.few_features h
 
 -- the result for invalid sources whose parts were read
-pub refused_for : (s : Sources) (parts : SourceParts) (fault : SourceFault) (r : Result Compiled SourceFault) → AreParts s parts → FitTogether parts → IsCompilationFault s fault
+pub rejected_for : (s : Sources) (parts : SourceParts) (fault : SourceFault) (r : Result Compiled SourceFault) → AreParts s parts → FitTogether parts → IsCompilationFault s fault
     → IfOk r (IsImageOf parts) → IfErr r (IsImageError parts) → IsRejectedFor fault r
-refused_for s parts fault (Ok c) h fit at image rejected = not_compiled s c.image.items c.entries c.skipped fault (is_compilation s parts c h fit image) at
-refused_for s parts fault (Err told) h fit at image rejected = told_for s fault told at (refusal s parts told h fit rejected)
+rejected_for s parts fault (Ok c) h fit at image rejected = not_compiled s c.image.items c.entries c.skipped fault (is_compilation s parts c h fit image) at
+rejected_for s parts fault (Err reported) h fit at image rejected = reported_for s fault reported at (compile_error s parts reported h fit rejected)

@@ -31,10 +31,10 @@ steps_push sizes before bytes steps rows h read =
         | inl old ↦
             let was = h.in_order k step old.1 in
             let front : take (k + 1) (before ++ bytes ∷ []) ≡ take (k + 1) before = take-append-le (k + 1) before (bytes ∷ []) (omega (arith, old.0, h.one_each)) in
-            record { rows = was.rows; are_rows = subst (λ ls. AreLexicons sizes 3 [] ls (Ok was.rows)) (sym front) was.are_rows; told = was.told }
+            record { rows = was.rows; are_rows = subst (λ ls. AreLexicons sizes 3 [] ls (Ok was.rows)) (sym front) was.are_rows; reported = was.reported }
         | inr last ↦
             let whole : take (k + 1) (before ++ bytes ∷ []) ≡ before ++ bytes ∷ [] = take_all (k + 1) (before ++ bytes ∷ []) (omega (arith, last.0, h.one_each, longer)) in
-            record { rows = rows; are_rows = subst (λ ls. AreLexicons sizes 3 [] ls (Ok rows)) (sym whole) read; told = sym last.1 }
+            record { rows = rows; are_rows = subst (λ ls. AreLexicons sizes 3 [] ls (Ok rows)) (sym whole) read; reported = sym last.1 }
       ];
     }
 
@@ -64,8 +64,8 @@ all_steps s parts steps are h =
     }
 
 -- three steps, and those after them
-pub behind_three : (before : List CompileStep) (a b c : CompileStep) (steps : List CompileStep) → (((before ++ a ∷ []) ++ b ∷ []) ++ c ∷ []) ++ steps ≡ before ++ a ∷ b ∷ c ∷ steps
-behind_three before a b c steps =
+pub after_three : (before : List CompileStep) (a b c : CompileStep) (steps : List CompileStep) → (((before ++ a ∷ []) ++ b ∷ []) ++ c ∷ []) ++ steps ≡ before ++ a ∷ b ∷ c ∷ steps
+after_three before a b c steps =
     append_assoc ((before ++ a ∷ []) ++ b ∷ []) (c ∷ []) steps
     ∙ append_assoc (before ++ a ∷ []) (b ∷ []) (c ∷ steps)
     ∙ append_assoc before (a ∷ []) (b ∷ c ∷ steps)

@@ -16,11 +16,11 @@ use Rattle.image_writer.proofs.RowLemmas.{joined}
 abbrev numbered : ℕ → List Row → List Token
 numbered first rows = map token_of (enumerate_from first rows)
 
-numbered_behind : (first : ℕ) (rows more : List Row) → numbered first (rows ++ more) ≡ numbered first rows ++ numbered (first + length rows) more
-numbered_behind first [] more = let e : first ≡ first + 0 = omega (arith) in ap (λ n. numbered n more) e
-numbered_behind first (row ∷ rows) more =
+numbered_after : (first : ℕ) (rows more : List Row) → numbered first (rows ++ more) ≡ numbered first rows ++ numbered (first + length rows) more
+numbered_after first [] more = let e : first ≡ first + 0 = omega (arith) in ap (λ n. numbered n more) e
+numbered_after first (row ∷ rows) more =
     let e : first + 1 + length rows ≡ first + suc (length rows) = omega (arith) in
-    let rest = numbered_behind (first + 1) rows more ∙ ap (λ n. numbered (first + 1) rows ++ numbered n more) e in
+    let rest = numbered_after (first + 1) rows more ∙ ap (λ n. numbered (first + 1) rows ++ numbered n more) e in
     λ i. token_of (first, row) ∷ rest i
 
 -- ---- lists of lists
@@ -50,7 +50,7 @@ as_many first (rows ∷ unknown) = ap suc (as_many (first + length rows) unknown
 all_unknown : (first : ℕ) (unknown : List (List Row)) → all_of (tokens_from first unknown) ≡ numbered first (joined unknown)
 all_unknown first [] = refl
 all_unknown first (rows ∷ unknown) =
-    ap (λ tokens. numbered first rows ++ tokens) (all_unknown (first + length rows) unknown) ∙ sym (numbered_behind first rows (joined unknown))
+    ap (λ tokens. numbered first rows ++ tokens) (all_unknown (first + length rows) unknown) ∙ sym (numbered_after first rows (joined unknown))
 
 unknown_by_category : (first : ℕ) (unknown : List (List Row)) → flat_map (unknown_tokens first unknown) (range_with_len 0 (length unknown)) ≡ numbered first (joined unknown)
 unknown_by_category first unknown =
@@ -65,4 +65,4 @@ all_tokens_are rows unknown =
     let none : length rows ≡ 0 + length rows = omega (arith) in
     (λ i. lexicon_tokens_are rows i ++ unknown_by_category (length rows) unknown i)
     ∙ ap (λ n. tokens_of rows ++ numbered n (joined unknown)) none
-    ∙ sym (numbered_behind 0 rows (joined unknown))
+    ∙ sym (numbered_after 0 rows (joined unknown))

@@ -71,11 +71,11 @@ module _ (sizes : MatrixSizes) (system : Tables) (is : IsSystemOf sizes system) 
     unfolding user_tables
     have_rows ordered o = have_user (user_tables ordered) ordered o refl is.sizes_are refl
 
-    pub user_refusal : (fault : SourceFault) → IsUserImageError read fault → IsMemoryOr fault (IsUserCause system lexicons fault)
+    pub user_error : (fault : SourceFault) → IsUserImageError read fault → IsMemoryOr fault (IsUserCause system lexicons fault)
     unfolding user_tables
-    user_refusal fault (inl memory) = inl memory
-    user_refusal fault (inr (inr full)) = let f = full.0 in inr (inr (is.kind, user_tables f.0, have_rows f.0 f.1, (f.2, full.1)))
-    user_refusal fault (inr (inl large)) =
+    user_error fault (inl memory) = inl memory
+    user_error fault (inr (inr full)) = let f = full.0 in inr (inr (is.kind, user_tables f.0, have_rows f.0 f.1, (f.2, full.1)))
+    user_error fault (inr (inl large)) =
         let l = large.0 in
         inr (inl (
           is.kind,
@@ -86,9 +86,9 @@ module _ (sizes : MatrixSizes) (system : Tables) (is : IsSystemOf sizes system) 
           ),
         ))
 
-  pub lexicons_refused : (fault : SourceFault) → IsMemoryOr fault (AreLexicons sizes 3 [] lexicons (Err fault)) → IsMemoryOr fault (IsUserCause system lexicons fault)
-  lexicons_refused fault (inl memory) = inl memory
-  lexicons_refused fault (inr h) = inr (inl (is.kind, inl (subst (λ (s : MatrixSizes). AreLexicons s 3 [] lexicons (Err fault)) (sym is.sizes_are) h)))
+  pub lexicons_rejected : (fault : SourceFault) → IsMemoryOr fault (AreLexicons sizes 3 [] lexicons (Err fault)) → IsMemoryOr fault (IsUserCause system lexicons fault)
+  lexicons_rejected fault (inl memory) = inl memory
+  lexicons_rejected fault (inr h) = inr (inl (is.kind, inl (subst (λ (s : MatrixSizes). AreLexicons s 3 [] lexicons (Err fault)) (sym is.sizes_are) h)))
 
 -- ---- the first error
 
@@ -101,13 +101,13 @@ module _ (system : Tables) (lexicons : List (List ℕ)) where
   no_user : (fault : SourceFault) (t : Tables) → AreLexicons system.sizes 3 [] lexicons (Err fault) → HaveUserTables system.sizes lexicons t → ⊥
   no_user fault t h k = both (lexicons_one system.sizes 3 [] lexicons (Err fault) (Ok k.rows) h k.are_rows)
 
-  pub user_told_for : (fault told : SourceFault) → IsUserFault system lexicons fault → IsMemoryOr told (IsUserCause system lexicons told) → IsReportedFor fault told
-  user_told_for fault told h (inl memory) = inr (inl memory)
-  user_told_for fault told (s, inl h) (inr (inl (r, inl k))) = inl (same_error (lexicons_one system.sizes 3 [] lexicons (Err told) (Err fault) k h))
-  user_told_for fault told (s, inl h) (inr (inl (r, inr k))) = absurd (no_user fault k.0 h k.1)
-  user_told_for fault told (s, inr h) (inr (inl (r, inl k))) = absurd (no_user told h.0 k h.1)
-  user_told_for fault told (s, inr h) (inr (inl (r, inr k))) = inl (k.2.1 ∙ sym h.2.1)
-  user_told_for fault told h (inr (inr k)) = inr (inr (ap (λ (f : SourceFault). f.kind) k.3.1))
+  pub user_reported_for : (fault reported : SourceFault) → IsUserFault system lexicons fault → IsMemoryOr reported (IsUserCause system lexicons reported) → IsReportedFor fault reported
+  user_reported_for fault reported h (inl memory) = inr (inl memory)
+  user_reported_for fault reported (s, inl h) (inr (inl (r, inl k))) = inl (same_error (lexicons_one system.sizes 3 [] lexicons (Err reported) (Err fault) k h))
+  user_reported_for fault reported (s, inl h) (inr (inl (r, inr k))) = absurd (no_user fault k.0 h k.1)
+  user_reported_for fault reported (s, inr h) (inr (inl (r, inl k))) = absurd (no_user reported h.0 k h.1)
+  user_reported_for fault reported (s, inr h) (inr (inl (r, inr k))) = inl (k.2.1 ∙ sym h.2.1)
+  user_reported_for fault reported h (inr (inr k)) = inr (inr (ap (λ (f : SourceFault). f.kind) k.3.1))
 
   -- invalid lexicons have no tables with small features
   pub not_both_for : (t : Tables) (fault : SourceFault) → HaveUserTables system.sizes lexicons t → feature_bytes (lexicon_tokens t.lexicon) < feature_bytes_end → IsUserFault system lexicons fault → ⊥
@@ -120,22 +120,22 @@ module _ (system : Tables) (lexicons : List (List ℕ)) where
   user_not_compiled image entries skipped fault c h = not_both_for (image_tables image) fault c.have c.compiled.few_features h
 
 -- the result for invalid lexicons that were read
-pub user_refused_for : (sizes : MatrixSizes) (system : Tables) (is : IsSystemOf sizes system) (lexicons : List (List ℕ)) (read : LexiconsRead) (kept : read.lexicon.sizes ≡ sizes)
+pub user_rejected_for : (sizes : MatrixSizes) (system : Tables) (is : IsSystemOf sizes system) (lexicons : List (List ℕ)) (read : LexiconsRead) (kept : read.lexicon.sizes ≡ sizes)
     → AreLexicons sizes 3 [] lexicons (Ok read.lexicon.rows) → SkipLines lexicons read.skipped → (fault : SourceFault) (r : Result Compiled SourceFault) → IsUserFault system lexicons fault
     → IfOk r (IsUserImageOf read) → IfErr r (IsUserImageError read) → IsRejectedFor fault r
-user_refused_for sizes system is lexicons read kept h skips fault (Ok c) at image rejected = user_not_compiled system lexicons c.image.items c.entries c.skipped fault (user_compilation sizes system is lexicons read kept h c skips image) at
-user_refused_for sizes system is lexicons read kept h skips fault (Err told) at image rejected = user_told_for system lexicons fault told at (user_refusal sizes system is lexicons read kept h told rejected)
+user_rejected_for sizes system is lexicons read kept h skips fault (Ok c) at image rejected = user_not_compiled system lexicons c.image.items c.entries c.skipped fault (user_compilation sizes system is lexicons read kept h c skips image) at
+user_rejected_for sizes system is lexicons read kept h skips fault (Err reported) at image rejected = user_reported_for system lexicons fault reported at (user_error sizes system is lexicons read kept h reported rejected)
 
 -- ---- the sizes of a system dictionary
 
 pub is_system_of : (system : Tables) (sizes : MatrixSizes) → false ≡ is_user system.kind → sizes ≡ system.sizes → IsSystemOf sizes system
 is_system_of system sizes kind same = record { kind = a_system system.kind (sym kind); sizes_are = sym same }
 
-abbrev told_or : SourceFault → Result Compiled CompileUserFault → SourceFault
-told_or other (Ok compiled) = other
-told_or other (Err NotSystem) = other
-told_or other (Err (Source fault)) = fault
+abbrev reported_or : SourceFault → Result Compiled CompileUserFault → SourceFault
+reported_or other (Ok compiled) = other
+reported_or other (Err NotSystem) = other
+reported_or other (Err (Source fault)) = fault
 
 -- equal results report equal errors
-pub same_told : {f g : SourceFault} → ◌≡◌ {A = Result Compiled CompileUserFault} (Err (Source f)) (Err (Source g)) → f ≡ g
-same_told {f} {g} e = ap (told_or f) e
+pub same_reported : {f g : SourceFault} → ◌≡◌ {A = Result Compiled CompileUserFault} (Err (Source f)) (Err (Source g)) → f ≡ g
+same_reported {f} {g} e = ap (reported_or f) e

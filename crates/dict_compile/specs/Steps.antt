@@ -18,7 +18,7 @@ use Rattle.dict_compile.specs.declared.watch.CompileStep.TheVariants.{MatrixRead
 pub record IsLexiconStep (sizes : MatrixSizes) (lexicons : List (List ℕ)) (k : ℕ) (step : CompileStep) : Type 0 where
   pub rows : List Row
   pub are_rows : AreLexicons sizes FIRST_LEXICON_FILE [] (take (k + 1) lexicons) (Ok rows)
-  pub told : step ≡ LexiconRead (length rows)
+  pub reported : step ≡ LexiconRead (length rows)
 
 -- a step for each lexicon, in order
 pub record AreLexiconSteps (sizes : MatrixSizes) (lexicons : List (List ℕ)) (steps : List CompileStep) : Type 0 where

@@ -4,7 +4,7 @@ ghost use Rattle.dict_compile.specs.CoveredTexts.{SourcesCoverAll, SourcesCoverT
 ghost use Rattle.mj_model.specs.SourceTables.{HaveOneMeaning};
 
 /// States that all tables of the same sources agree on each code point.
-pub fn sources_say_one_thing()
+pub fn sources_have_one_meaning()
     ensures { HaveOneMeaning }
 {}
 

@@ -39,8 +39,8 @@ pub record IsFront (n : ℕ) (bytes : List ℕ) : Type 0 where
   pub storable : IsStorable (first_category bytes)
   pub rest : AreCategories n (after_first_category bytes)
 
-pub front_of : (n : ℕ) (bytes : List ℕ) → AreCategories (suc n) bytes → IsFront n bytes
-front_of n bytes are =
+pub prefix_of : (n : ℕ) (bytes : List ℕ) → AreCategories (suc n) bytes → IsFront n bytes
+prefix_of n bytes are =
     let c = first_category bytes in
     let rest = flat_map category_bytes (categories_in n (after_first_category bytes)) in
     let fill : bytes ≡ category_bytes c ++ rest = are.fill in
@@ -55,10 +55,10 @@ front_of n bytes are =
       rest = record { storable = λ k d less. are.storable (suc k) d (omega (arith, less)); fill = following };
     }
 
-pub fronts_of : (n i : ℕ) (bytes : List ℕ) → AreCategories n bytes → i ≤ n → HasCategoriesFirst i bytes
-fronts_of n zero bytes are within = tt
-fronts_of zero (suc i) bytes are within = absurd (omega (arith, within))
-fronts_of (suc n) (suc i) bytes are within = let f = front_of n bytes are in (f.first, fronts_of n i (after_first_category bytes) f.rest (omega (arith, within)))
+pub category_prefixes : (n i : ℕ) (bytes : List ℕ) → AreCategories n bytes → i ≤ n → HasCategoriesFirst i bytes
+category_prefixes n zero bytes are within = tt
+category_prefixes zero (suc i) bytes are within = absurd (omega (arith, within))
+category_prefixes (suc n) (suc i) bytes are within = let f = prefix_of n bytes are in (f.first, category_prefixes n i (after_first_category bytes) f.rest (omega (arith, within)))
 
 -- category i lies within the section, and may be stored
 pub record IsWhole (bytes : List ℕ) : Type 0 where
@@ -67,12 +67,12 @@ pub record IsWhole (bytes : List ℕ) : Type 0 where
 
 pub whole_there : (n i : ℕ) (bytes : List ℕ) → AreCategories n bytes → i < n → IsWhole (bytes_from i bytes)
 whole_there zero i bytes are less = absurd (omega (arith, less))
-whole_there (suc n) zero bytes are less = let f = front_of n bytes are in record { first = f.first; storable = f.storable }
-whole_there (suc n) (suc i) bytes are less = whole_there n i (after_first_category bytes) (front_of n bytes are).rest (omega (arith, less))
+whole_there (suc n) zero bytes are less = let f = prefix_of n bytes are in record { first = f.first; storable = f.storable }
+whole_there (suc n) (suc i) bytes are less = whole_there n i (after_first_category bytes) (prefix_of n bytes are).rest (omega (arith, less))
 
 -- one step further
-pub front_more : (n m : ℕ) (bytes : List ℕ) → m ≡ suc n → HasCategoriesFirst m bytes → HasFirst bytes × HasCategoriesFirst n (after_first_category bytes)
-front_more n m bytes e front = subst (λ (k : ℕ). HasCategoriesFirst k bytes) e front
+pub prefix_more : (n m : ℕ) (bytes : List ℕ) → m ≡ suc n → HasCategoriesFirst m bytes → HasFirst bytes × HasCategoriesFirst n (after_first_category bytes)
+prefix_more n m bytes e front = subst (λ (k : ℕ). HasCategoriesFirst k bytes) e front
 
 pub from_more : (n m : ℕ) (bytes : List ℕ) → m ≡ suc n → bytes_from m bytes ≡ bytes_from n (after_first_category bytes)
 from_more n m bytes e = ap (λ (k : ℕ). bytes_from k bytes) e
@@ -97,9 +97,9 @@ pub whole_of_image : (bytes : List ℕ) (i : ℕ) → IsImage bytes → i < (hea
 whole_of_image bytes i w less =
     whole_there (header_of bytes).categories i (section bytes 2) (categories_are bytes (system_of_categories bytes i w less) w) less
 
-pub fronts_of_image : (bytes : List ℕ) (i : ℕ) → IsImage bytes → i < (header_of bytes).categories → HasCategoriesFirst i (section bytes 2)
-fronts_of_image bytes i w less =
-    fronts_of (header_of bytes).categories i (section bytes 2) (categories_are bytes (system_of_categories bytes i w less) w) (omega (arith, less))
+pub category_prefixes_of_image : (bytes : List ℕ) (i : ℕ) → IsImage bytes → i < (header_of bytes).categories → HasCategoriesFirst i (section bytes 2)
+category_prefixes_of_image bytes i w less =
+    category_prefixes (header_of bytes).categories i (section bytes 2) (categories_are bytes (system_of_categories bytes i w less) w) (omega (arith, less))
 
 pub below_count : (bytes : List ℕ) (i : ℕ) → i < length (map (λ (n : NamedCategory). n.category) (image_categories bytes)) → i < (header_of bytes).categories
 below_count bytes i less = let e = count_of_image bytes in omega (arith, less, e)
@@ -111,14 +111,14 @@ category_of_image bytes i less = category_there (header_of bytes).categories i (
 
 all_by : (n : ℕ) (bytes : List ℕ) → (0 < n → AreCategories n bytes) → HasCategoriesFirst n bytes
 all_by zero bytes are = tt
-all_by (suc n) bytes are = fronts_of (suc n) (suc n) bytes (are (omega arith)) (omega arith)
+all_by (suc n) bytes are = category_prefixes (suc n) (suc n) bytes (are (omega arith)) (omega arith)
 
-all_fronts : (bytes : List ℕ) → IsImage bytes → HasCategoriesFirst (header_of bytes).categories (section bytes 2)
-all_fronts bytes w = all_by (header_of bytes).categories (section bytes 2) (λ some. categories_are bytes (system_of_categories bytes 0 w some) w)
+all_category_prefixes : (bytes : List ℕ) → IsImage bytes → HasCategoriesFirst (header_of bytes).categories (section bytes 2)
+all_category_prefixes bytes w = all_by (header_of bytes).categories (section bytes 2) (λ some. categories_are bytes (system_of_categories bytes 0 w some) w)
 
-pub fronts_in : (bytes : List ℕ) (h : Header) (named : List ℕ) → h ≡ header_of bytes → named ≡ section bytes 2 → IsImage bytes → HasCategoriesFirst h.categories named
-fronts_in bytes h named same there w =
-    subst (λ (xs : List ℕ). HasCategoriesFirst h.categories xs) (sym there) (subst (λ (g : Header). HasCategoriesFirst g.categories (section bytes 2)) (sym same) (all_fronts bytes w))
+pub category_prefixes_in : (bytes : List ℕ) (h : Header) (named : List ℕ) → h ≡ header_of bytes → named ≡ section bytes 2 → IsImage bytes → HasCategoriesFirst h.categories named
+category_prefixes_in bytes h named same there w =
+    subst (λ (xs : List ℕ). HasCategoriesFirst h.categories xs) (sym there) (subst (λ (g : Header). HasCategoriesFirst g.categories (section bytes 2)) (sym same) (all_category_prefixes bytes w))
 
 pub categories_in_image : (bytes : List ℕ) (h : Header) (named : List ℕ) (list : List Category) → h ≡ header_of bytes → named ≡ section bytes 2 → list ≡ listed_categories h.categories named
     → list ≡ listed_categories (header_of bytes).categories (section bytes 2)

@@ -9,7 +9,7 @@ use Rattle.std.proofs.lemmas.List.FromFn.{get_or-map-range_with_len, length-map-
 use Rattle.std.proofs.lemmas.Option.{slice_get-get_or}
 use Rattle.image_format.specs.ImageBytes.{all_tokens, header_of, number_at, section}
 use Rattle.image_format.specs.ImageMeaning.{image_tables, image_token}
-use Rattle.image_format.proofs.NumberLemmas.{number_behind, number_kept}
+use Rattle.image_format.proofs.NumberLemmas.{number_after, number_kept}
 use Rattle.dict_image.specs.Validation.Outlines.{IsImage}
 use Rattle.mj_model.specs.Tables.{Token}
 use Rattle.dict_image.specs.declared.ids_and_cost.IdsAndCost.{IdsAndCost}
@@ -53,7 +53,7 @@ module _ (tokens : List ℕ) (first count : ℕ) (within : 16 * (first + count) 
       let rest = drop size (drop (16 * first) tokens) in
       let whole : take (16 * first) tokens ++ (part ++ rest) ≡ tokens = ap (λ (xs : List ℕ). take (16 * first) tokens ++ xs) (take-append-drop size (drop (16 * first) tokens)) ∙ take-append-drop (16 * first) tokens in
       let front : length (take (16 * first) tokens) ≡ 16 * first = omega (arith, length-take (16 * first) tokens, within) in
-      sym (number_kept n at part rest (omega (arith, part_long, less))) ∙ sym (number_behind n at (take (16 * first) tokens) (part ++ rest) to (omega (arith, front, place)))
+      sym (number_kept n at part rest (omega (arith, part_long, less))) ∙ sym (number_after n at (take (16 * first) tokens) (part ++ rest) to (omega (arith, front, place)))
       ∙ ap (λ (xs : List ℕ). number_at n xs to) whole
 
   ids_in_part : (i : ℕ) → i < count → stored_ids part i ≡ stored_ids tokens (first + i)

@@ -72,7 +72,7 @@ no_bytes cells s = refl
 bytes_back_to : (values : ℕ) (cells : List Cell) (s t : ℕ) (key : List ℕ) → MeetsRules values cells → walk cells s (map suc key) ≡ Some t → bytes_to cells (length key) t ≡ key
 bytes_back_to values cells s t key rules led =
     let n : length key ≡ length key + 0 = omega arith in
-    ap (λ (k : ℕ). bytes_to cells k t) n ∙ bytes_back values cells 0 s t key rules led ∙ ap (λ (front : List ℕ). front ++ key) (no_bytes cells s)
+    ap (λ (k : ℕ). bytes_to cells k t) n ∙ bytes_back values cells 0 s t key rules led ∙ ap (λ (prefix : List ℕ). prefix ++ key) (no_bytes cells s)
 
 -- `SURFACE_MAX` bytes, and a cell other than 0
 pub too_long : (values : ℕ) (cells : List Cell) (s t : ℕ) (bytes key : List ℕ) → MeetsRules values cells → s ≢ 0 → walk cells s (map suc bytes) ≡ Some t → length key ≤ length bytes → walk cells 0 (map suc key) ≡ Some t → ⊥
@@ -84,12 +84,12 @@ too_long values cells s t bytes key rules other led few whole =
 -- ---- the states on the way
 
 -- one more state on the way back
-pub one_passed : (cells : List Cell) (s t to : ℕ) (way : List ℕ) → check cells t ≡ pos s → IsState cells t → LeadOn cells t (reverse way) to → LeadOn cells s (reverse (way ++ t ∷ [])) to
-one_passed cells s t to way named state leads = subst (λ (ts : List ℕ). LeadOn cells s ts to) (sym (reverse-append way (t ∷ []))) (named, state, leads)
+pub one_passed : (cells : List Cell) (s t to : ℕ) (path : List ℕ) → check cells t ≡ pos s → IsState cells t → LeadOn cells t (reverse path) to → LeadOn cells s (reverse (path ++ t ∷ [])) to
+one_passed cells s t to path named state leads = subst (λ (ts : List ℕ). LeadOn cells s ts to) (sym (reverse-append path (t ∷ []))) (named, state, leads)
 
 -- the last state on the way back is the first one on the way from there
-pub first_of_way : (cells : List Cell) (s t to : ℕ) (way rest : List ℕ) → way ≡ rest ++ t ∷ [] → LeadOn cells s (reverse way) to → LeadOn cells s (t ∷ reverse rest) to
-first_of_way cells s t to way rest e leads = subst (λ (ts : List ℕ). LeadOn cells s ts to) (ap reverse e ∙ reverse-append rest (t ∷ [])) leads
+pub first_of_path : (cells : List Cell) (s t to : ℕ) (path rest : List ℕ) → path ≡ rest ++ t ∷ [] → LeadOn cells s (reverse path) to → LeadOn cells s (t ∷ reverse rest) to
+first_of_path cells s t to path rest e leads = subst (λ (ts : List ℕ). LeadOn cells s ts to) (ap reverse e ∙ reverse-append rest (t ∷ [])) leads
 
 -- bytes that lead through the states
 pub bytes_over : (values : ℕ) (cells : List Cell) (s to : ℕ) (ts : List ℕ) → MeetsRules values cells → LeadOn cells s ts to → (bytes : List ℕ) × (length bytes ≡ length ts) × (walk cells s (map suc bytes) ≡ Some to)
@@ -101,11 +101,11 @@ bytes_over values cells s to (t ∷ ts) rules leads =
     ((t - i.from - 1) ∷ rest.0, ap suc rest.1, walk_one cells s (suc (t - i.from - 1)) (map suc rest.0) t back.led ∙ rest.2)
 
 -- a way back over `SURFACE_MAX` states that does not end at cell 0
-pub way_too_long : (values : ℕ) (cells : List Cell) (s to : ℕ) (way : List ℕ) → MeetsRules values cells → s ≢ 0 → LeadOn cells s (reverse way) to → length way ≡ SURFACE_MAX → IsTooFar cells to
-way_too_long values cells s to way rules other leads long key few led =
-    let over = bytes_over values cells s to (reverse way) rules leads in
+pub path_too_long : (values : ℕ) (cells : List Cell) (s to : ℕ) (path : List ℕ) → MeetsRules values cells → s ≢ 0 → LeadOn cells s (reverse path) to → length path ≡ SURFACE_MAX → IsTooFar cells to
+path_too_long values cells s to path rules other leads long key few led =
+    let over = bytes_over values cells s to (reverse path) rules leads in
     let many = over.1 in
-    let same = length-reverse way in
+    let same = length-reverse path in
     too_long values cells s to over.0 key rules other over.2 (omega (arith, few, many, same, long)) led
 
 -- a state with too many bytes before it
@@ -145,9 +145,9 @@ key_found values cells group place state key rules holds named led some short te
 
 -- the bytes that lead to the state of a group's value are its key if and only if they are UTF-8 of
 -- at least 1 byte
-pub key_by_front : (values : ℕ) (cells : List Cell) (group place state : ℕ) (front : KeyPrefix) (is_key : Bool) → MeetsRules values cells → OccursOnce cells group → base cells place ≡ negsuc group → check cells place ≡ pos state
-    → IsKeyPrefixOf cells state front → ((key : List ℕ) → IsKeyPrefix key front → IsTrue is_key ↔ ((1 ≤ length key) × IsUtf8 key)) → IsTrue is_key ↔ HasKey cells group
-key_by_front values cells group place state front is_key rules once holds named of says =
+pub key_by_prefix : (values : ℕ) (cells : List Cell) (group place state : ℕ) (prefix : KeyPrefix) (is_key : Bool) → MeetsRules values cells → OccursOnce cells group → base cells place ≡ negsuc group → check cells place ≡ pos state
+    → IsKeyPrefixOf cells state prefix → ((key : List ℕ) → IsKeyPrefix key prefix → IsTrue is_key ↔ ((1 ≤ length key) × IsUtf8 key)) → IsTrue is_key ↔ HasKey cells group
+key_by_prefix values cells group place state prefix is_key rules once holds named of says =
     let short = of.known.short in (
       λ t. let k = (says of.key of.known).0 t in (of.key, key_found values cells group place state of.key rules holds named of.led k.0 short k.1),
       λ has.

@@ -15,23 +15,23 @@ use Rattle.dict_image.specs.Validation.KeyPrefixes.{IsKeyPrefix, IsKeyPrefixOf, 
 
 -- ---- one more byte, and none
 
-stands_more : (bytes : List ℕ) (stand next : Utf8State) (byte : ℕ) → HasUtf8State bytes stand → IsAfter stand byte next → HasUtf8State (bytes ++ byte ∷ []) next
-stands_more bytes stand next byte is after more =
+state_more : (bytes : List ℕ) (state next : Utf8State) (byte : ℕ) → HasUtf8State bytes state → IsAfter state byte next → HasUtf8State (bytes ++ byte ∷ []) next
+state_more bytes state next byte is after more =
     let e : (bytes ++ byte ∷ []) ++ more ≡ bytes ++ byte ∷ more = append_assoc bytes (byte ∷ []) more in (
       λ u. (after more).0 ((is (byte ∷ more)).0 (subst IsUtf8 e u)),
       λ accepts. subst IsUtf8 (sym e) ((is (byte ∷ more)).1 ((after more).1 accepts)),
     )
 
-pub front_more : (key : List ℕ) (front : KeyPrefix) (byte : ℕ) (next : Utf8State) → IsKeyPrefix key front → front.length < SURFACE_MAX → IsAfter front.stand byte next → IsKeyPrefix (key ++ byte ∷ []) (record { length = front.length + 1; stand = next })
-front_more key front byte next is below after =
+pub prefix_more : (key : List ℕ) (prefix : KeyPrefix) (byte : ℕ) (next : Utf8State) → IsKeyPrefix key prefix → prefix.length < SURFACE_MAX → IsAfter prefix.state byte next → IsKeyPrefix (key ++ byte ∷ []) (record { length = prefix.length + 1; state = next })
+prefix_more key prefix byte next is below after =
     let long = is.long in
     let more = length-append key (byte ∷ []) in
-    record { long = omega (arith, long, more); short = omega (arith, long, more, below); lies = stands_more key front.stand next byte is.lies after }
+    record { long = omega (arith, long, more); short = omega (arith, long, more, below); lies = state_more key prefix.state next byte is.lies after }
 
-pub is_text : (key : List ℕ) (front : KeyPrefix) → IsKeyPrefix key front → front.stand ≡ Between → IsUtf8 key
-is_text key front is between = subst IsUtf8 (append-nil key) ((is.lies []).1 (subst (λ (stand : Utf8State). Accepts stand []) (sym between) IsUtf8-nil))
+pub is_text : (key : List ℕ) (prefix : KeyPrefix) → IsKeyPrefix key prefix → prefix.state ≡ Between → IsUtf8 key
+is_text key prefix is between = subst IsUtf8 (append-nil key) ((is.lies []).1 (subst (λ (state : Utf8State). Accepts state []) (sym between) IsUtf8-nil))
 
-none_at_end : (stand : Utf8State) → (stand ≡ Between → ⊥) → Accepts stand [] → ⊥
+none_at_end : (state : Utf8State) → (state ≡ Between → ⊥) → Accepts state [] → ⊥
 none_at_end Between other accepts = other refl
 none_at_end OneTail other accepts = accepts
 none_at_end TwoTails other accepts = accepts
@@ -42,8 +42,8 @@ none_at_end AfterF0 other accepts = accepts
 none_at_end AfterF4 other accepts = accepts
 none_at_end Broken other accepts = accepts
 
-pub is_no_text : (key : List ℕ) (front : KeyPrefix) → IsKeyPrefix key front → (front.stand ≡ Between → ⊥) → IsUtf8 key → ⊥
-is_no_text key front is other text = none_at_end front.stand other ((is.lies []).0 (subst IsUtf8 (sym (append-nil key)) text))
+pub is_no_text : (key : List ℕ) (prefix : KeyPrefix) → IsKeyPrefix key prefix → (prefix.state ≡ Between → ⊥) → IsUtf8 key → ⊥
+is_no_text key prefix is other text = none_at_end prefix.state other ((is.lies []).0 (subst IsUtf8 (sym (append-nil key)) text))
 
 -- ---- one step more
 
@@ -53,28 +53,28 @@ led_more cells key s t byte led at = ap (walk cells 0) (map-append suc key (byte
 -- ---- the cache
 
 abbrev AreTrue : List Cell → List (Option KeyPrefix) → Type 0
-AreTrue cells fronts = (t : ℕ) (front : KeyPrefix) → key_prefix_at fronts t ≡ Some front → IsKeyPrefixOf cells t front
+AreTrue cells prefixes = (t : ℕ) (prefix : KeyPrefix) → key_prefix_at prefixes t ≡ Some prefix → IsKeyPrefixOf cells t prefix
 
-set_true : (cells : List Cell) (fronts : List (Option KeyPrefix)) (s : ℕ) (front : KeyPrefix) → AreTrue cells fronts → s < length fronts → IsKeyPrefixOf cells s front → AreTrue cells (set fronts s (Some front))
-set_true cells fronts s front true within is t other at = elim (cases_eq t s) [
+set_true : (cells : List Cell) (prefixes : List (Option KeyPrefix)) (s : ℕ) (prefix : KeyPrefix) → AreTrue cells prefixes → s < length prefixes → IsKeyPrefixOf cells s prefix → AreTrue cells (set prefixes s (Some prefix))
+set_true cells prefixes s prefix true within is t other at = elim (cases_eq t s) [
   | inl same ↦
-      let e : key_prefix_at (set fronts s (Some front)) t ≡ Some front = ap (key_prefix_at (set fronts s (Some front))) same ∙ get_or-set_same fronts s (Some front) None within in
-      let f : front ≡ other = same_Some front other (sym e ∙ at) in
+      let e : key_prefix_at (set prefixes s (Some prefix)) t ≡ Some prefix = ap (key_prefix_at (set prefixes s (Some prefix))) same ∙ get_or-set_same prefixes s (Some prefix) None within in
+      let f : prefix ≡ other = same_Some prefix other (sym e ∙ at) in
       subst (λ (u : ℕ). IsKeyPrefixOf cells u other) (sym same) (subst (IsKeyPrefixOf cells s) f is)
-  | inr apart ↦ true t other (sym (get_or-set_other fronts s t (Some front) None apart) ∙ at)
+  | inr apart ↦ true t other (sym (get_or-set_other prefixes s t (Some prefix) None apart) ∙ at)
 ]
 
 -- one more cached cell
-pub fronts_set : (cells : List Cell) (fronts : List (Option KeyPrefix)) (s : ℕ) (front : KeyPrefix) → AreKeyPrefixes cells fronts → s < length cells → IsKeyPrefixOf cells s front → AreKeyPrefixes cells (set fronts s (Some front))
-fronts_set cells fronts s front are within is =
+pub prefixes_set : (cells : List Cell) (prefixes : List (Option KeyPrefix)) (s : ℕ) (prefix : KeyPrefix) → AreKeyPrefixes cells prefixes → s < length cells → IsKeyPrefixOf cells s prefix → AreKeyPrefixes cells (set prefixes s (Some prefix))
+prefixes_set cells prefixes s prefix are within is =
     let many = are.many in
-    let below : s < length fronts = omega (arith, many, within) in record {
-      many = length-set fronts s (Some front) ∙ are.many;
+    let below : s < length prefixes = omega (arith, many, within) in record {
+      many = length-set prefixes s (Some prefix) ∙ are.many;
       root = elim (cases_eq 0 s) [
-        | inl same ↦ (front, ap (key_prefix_at (set fronts s (Some front))) same ∙ get_or-set_same fronts s (Some front) None below)
-        | inr apart ↦ (are.root.0, get_or-set_other fronts s 0 (Some front) None apart ∙ are.root.1)
+        | inl same ↦ (prefix, ap (key_prefix_at (set prefixes s (Some prefix))) same ∙ get_or-set_same prefixes s (Some prefix) None below)
+        | inr apart ↦ (are.root.0, get_or-set_other prefixes s 0 (Some prefix) None apart ∙ are.root.1)
       ];
-      each = set_true cells fronts s front are.each below is;
+      each = set_true cells prefixes s prefix are.each below is;
     }
 
 -- at first only cell 0 is cached
@@ -84,12 +84,12 @@ none_known n t = elim (cases_lt t n) [
   | inr past ↦ let e = length-replicate {A = Option KeyPrefix} n None in get_or_past (replicate n None) t None (omega (arith, e, past))
 ]
 
-pub fronts_begun : (cells : List Cell) (fronts : List (Option KeyPrefix)) (front : KeyPrefix) → 0 < length cells → fronts ≡ replicate (length cells) None → IsKeyPrefix [] front → AreKeyPrefixes cells (set fronts 0 (Some front))
-fronts_begun cells fronts front some unknown is =
-    let many : length fronts ≡ length cells = ap length unknown ∙ length-replicate (length cells) None in
-    let below : 0 < length fronts = omega (arith, many, some) in record {
-      many = length-set fronts 0 (Some front) ∙ many;
-      root = (front, get_or-set_same fronts 0 (Some front) None below);
-      each = set_true cells fronts 0 front (λ t other at. absurd (none-some other (sym (ap (λ (xs : List (Option KeyPrefix)). key_prefix_at xs t) unknown ∙ none_known (length cells) t) ∙ at))) below
+pub prefixes_started : (cells : List Cell) (prefixes : List (Option KeyPrefix)) (prefix : KeyPrefix) → 0 < length cells → prefixes ≡ replicate (length cells) None → IsKeyPrefix [] prefix → AreKeyPrefixes cells (set prefixes 0 (Some prefix))
+prefixes_started cells prefixes prefix some unknown is =
+    let many : length prefixes ≡ length cells = ap length unknown ∙ length-replicate (length cells) None in
+    let below : 0 < length prefixes = omega (arith, many, some) in record {
+      many = length-set prefixes 0 (Some prefix) ∙ many;
+      root = (prefix, get_or-set_same prefixes 0 (Some prefix) None below);
+      each = set_true cells prefixes 0 prefix (λ t other at. absurd (none-some other (sym (ap (λ (xs : List (Option KeyPrefix)). key_prefix_at xs t) unknown ∙ none_known (length cells) t) ∙ at))) below
           (record { key = []; led = walk_none cells 0; known = is });
     }

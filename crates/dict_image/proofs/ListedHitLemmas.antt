@@ -43,8 +43,8 @@ none_among list text a (suc n) none =
     ∙ none_among list text (a + 1) n (λ m up. none m (omega (arith, up)))
 
 -- no hit is longer than bytes with which no key starts
-pub no_hits_behind : (list : KeyList) (text : List ℕ) (n : ℕ) → ((more : List ℕ) → number_in list (take (n + 1) text ++ more) ≡ None) → listed_hits_after list text n ≡ []
-no_hits_behind list text n none =
+pub no_hits_after : (list : KeyList) (text : List ℕ) (n : ℕ) → ((more : List ℕ) → number_in list (take (n + 1) text ++ more) ≡ None) → listed_hits_after list text n ≡ []
+no_hits_after list text n none =
     none_among list text (n + 1) (length text - n) (λ m up.
     let e : m ≡ n + 1 + (m - (n + 1)) = omega (arith, up) in
     ap (λ (k : ℕ). number_in list (take k text)) e ∙ ap (number_in list) (take-add (n + 1) (m - (n + 1)) text) ∙ none (take (m - (n + 1)) (drop (n + 1) text)))

@@ -15,8 +15,8 @@ past fault reported other memory rest (inr later) = rest later.1
 of_section : (number : ℕ) → BadSection number ≡ Memory → ⊥
 of_section number e = cc
 
-pub front_takes_none : (bytes : List ℕ) (fault : ImageFault) → fault ≡ Memory → IsFirstFault (prefix_tests (header_of bytes) bytes) fault → ⊥
-front_takes_none bytes fault memory =
+pub prefix_takes_none : (bytes : List ℕ) (fault : ImageFault) → fault ≡ Memory → IsFirstFault (prefix_tests (header_of bytes) bytes) fault → ⊥
+prefix_takes_none bytes fault memory =
     past Truncated fault (λ (e : Truncated ≡ Memory). cc) memory
     (past BadMagic fault (λ (e : BadMagic ≡ Memory). cc) memory
     (past (BadLayout (header_of bytes).layout) fault (λ (e : BadLayout (header_of bytes).layout ≡ Memory). cc) memory (λ none. none)))

@@ -3,7 +3,7 @@ use Rattle.std.proofs.Common.{ℕ, ◌<◌, ◌≤◌, ◌^◌, List, length, ar
 use Rattle.image_format.specs.ImageBytes.{header_of, section_end, total_length}
 use Rattle.image_format.specs.ImageFaults.{IsAccepted, IsWellFormed}
 use Rattle.image_format.specs.declared.digest_test.DigestTest.{DigestTest}
-use Rattle.image_format.specs.declared.digest_test.DigestTest.TheVariants.{Made, Skipped}
+use Rattle.image_format.specs.declared.digest_test.DigestTest.TheVariants.{Verified, Skipped}
 use Rattle.image_format.proofs.ImageFaultLaws.{well_formed_of}
 use Rattle.dict_image.specs.Validation.Outlines.{IsImage}
 
@@ -21,7 +21,7 @@ sections_within bytes w = let total : total_length (header_of bytes) ≤ length 
 
 -- bytes that pass the tests, with or without the SHA-256's, are an image
 pub from_accepted : (digest : DigestTest) (bytes : List ℕ) → IsAccepted digest bytes → IsImage bytes
-from_accepted Made bytes w = from_formed bytes (well_formed_of bytes w).0
+from_accepted Verified bytes w = from_formed bytes (well_formed_of bytes w).0
 from_accepted Skipped bytes w = from_formed bytes w
 
 -- the end of the sections fits 64 bits, because the bytes lie in memory

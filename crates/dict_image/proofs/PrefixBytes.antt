@@ -20,9 +20,9 @@ use Rattle.dict_image.proofs.ListedOrder.{found_number, groups_of_list, key_abov
 same_rank : (x : ℕ) → nat_cmp x x ≡ Equal
 same_rank x = sym (nat_cmp_is x x Equal refl)
 
-without_front : (front xs ys : List ℕ) → order (front ++ xs) (front ++ ys) ≡ order xs ys
-without_front [] xs ys = refl
-without_front (f ∷ fs) xs ys = ap (λ (o : Ordering). ordering_then o (order (fs ++ xs) (fs ++ ys))) (same_rank f) ∙ without_front fs xs ys
+without_prefix : (front xs ys : List ℕ) → order (front ++ xs) (front ++ ys) ≡ order xs ys
+without_prefix [] xs ys = refl
+without_prefix (f ∷ fs) xs ys = ap (λ (o : Ordering). ordering_then o (order (fs ++ xs) (fs ++ ys))) (same_rank f) ∙ without_prefix fs xs ys
 
 abbrev first_code : List ℕ → ℕ
 first_code xs = get_or (codes_of xs) 0 0
@@ -86,7 +86,7 @@ module _ (list : KeyList) (are : (i : ℕ) → i < list.count → IsListedKey li
       let b = range.inside j (omega (arith, up, less)) below in
       let keys : order (listed_key list.bytes i) (listed_key list.bytes j) ≡ Less = key_above list.count list.bytes are i j less (omega (arith, below, w)) in
       let rests : order a.0 b.0 ≡ Less =
-      sym (without_front front a.0 b.0) ∙ ap (λ (key : List ℕ). order key (front ++ b.0)) (sym a.1) ∙ ap (order (listed_key list.bytes i)) (sym b.1) ∙ keys in
+      sym (without_prefix front a.0 b.0) ∙ ap (λ (key : List ℕ). order key (front ++ b.0)) (sym a.1) ∙ ap (order (listed_key list.bytes i)) (sym b.1) ∙ keys in
       let e = code_in i a in
       let f = code_in j b in
       let l = codes_in_order a.0 b.0 rests in
@@ -149,11 +149,11 @@ module _ (list : KeyList) (are : (i : ℕ) → i < list.count → IsListedKey li
 
 -- ---- the first bytes of a text
 
-pub front_long : (n : ℕ) (text : List ℕ) → n ≤ length text → length (take n text) ≡ n
-front_long n text short = length-take-le n text short
+pub prefix_long : (n : ℕ) (text : List ℕ) → n ≤ length text → length (take n text) ≡ n
+prefix_long n text short = length-take-le n text short
 
-pub front_more : (n : ℕ) (text : List ℕ) → n < length text → take (n + 1) text ≡ take n text ++ get_or text n 0 ∷ []
-front_more n text less = take_more text n 0 less
+pub prefix_more : (n : ℕ) (text : List ℕ) → n < length text → take (n + 1) text ≡ take n text ++ get_or text n 0 ∷ []
+prefix_more n text less = take_more text n 0 less
 
 -- if no key starts with a prefix of a text, none starts with the whole text
 pub none_begins : (list : KeyList) (text : List ℕ) (n low high : ℕ) → high ≤ low → IsRangeOf list (take n text) low high → IsRangeOf list (take (length text) text) low high

@@ -13,24 +13,24 @@ pub pass_both : (xs ys : List Test) → PassAll xs → PassAll ys → PassAll (x
 pass_both [] ys p q = q
 pass_both (x ∷ xs) ys p q = (p.0, pass_both xs ys p.1 q)
 
-pub told_first : (xs ys : List Test) (fault : ImageFault) → IsFirstFault xs fault → IsFirstFault (xs ++ ys) fault
-told_first [] ys fault t = absurd t
-told_first (x ∷ xs) ys fault (inl t) = inl t
-told_first (x ∷ xs) ys fault (inr t) = inr (t.0, told_first xs ys fault t.1)
+pub reported_first : (xs ys : List Test) (fault : ImageFault) → IsFirstFault xs fault → IsFirstFault (xs ++ ys) fault
+reported_first [] ys fault t = absurd t
+reported_first (x ∷ xs) ys fault (inl t) = inl t
+reported_first (x ∷ xs) ys fault (inr t) = inr (t.0, reported_first xs ys fault t.1)
 
-pub told_later : (xs ys : List Test) (fault : ImageFault) → PassAll xs → IsFirstFault ys fault → IsFirstFault (xs ++ ys) fault
-told_later [] ys fault p t = t
-told_later (x ∷ xs) ys fault p t = inr (p.0, told_later xs ys fault p.1 t)
+pub reported_later : (xs ys : List Test) (fault : ImageFault) → PassAll xs → IsFirstFault ys fault → IsFirstFault (xs ++ ys) fault
+reported_later [] ys fault p t = t
+reported_later (x ∷ xs) ys fault p t = inr (p.0, reported_later xs ys fault p.1 t)
 
-pub end_told : (digest : DigestTest) (bytes : List ℕ) (fault : ImageFault) → PassAll (prefix_tests (header_of bytes) bytes) → IsFirstFault (end_tests digest (header_of bytes) bytes) fault → IsImageFault digest bytes fault
-end_told digest bytes fault front reported =
-    told_later (prefix_tests (header_of bytes) bytes) (end_tests digest (header_of bytes) bytes ++ section_tests (header_of bytes) bytes) fault front
-    (told_first (end_tests digest (header_of bytes) bytes) (section_tests (header_of bytes) bytes) fault reported)
+pub end_reported : (digest : DigestTest) (bytes : List ℕ) (fault : ImageFault) → PassAll (prefix_tests (header_of bytes) bytes) → IsFirstFault (end_tests digest (header_of bytes) bytes) fault → IsImageFault digest bytes fault
+end_reported digest bytes fault front reported =
+    reported_later (prefix_tests (header_of bytes) bytes) (end_tests digest (header_of bytes) bytes ++ section_tests (header_of bytes) bytes) fault front
+    (reported_first (end_tests digest (header_of bytes) bytes) (section_tests (header_of bytes) bytes) fault reported)
 
-pub section_told : (digest : DigestTest) (bytes : List ℕ) (h : Header) (fault : ImageFault) → h ≡ header_of bytes → PassAll (prefix_tests (header_of bytes) bytes) → PassAll (end_tests digest (header_of bytes) bytes) → IsFirstFault (section_tests h bytes) fault → IsImageFault digest bytes fault
-section_told digest bytes h fault e front end reported =
-    told_later (prefix_tests (header_of bytes) bytes) (end_tests digest (header_of bytes) bytes ++ section_tests (header_of bytes) bytes) fault front
-    (told_later (end_tests digest (header_of bytes) bytes) (section_tests (header_of bytes) bytes) fault end (subst (λ (g : Header). IsFirstFault (section_tests g bytes) fault) e reported))
+pub section_reported : (digest : DigestTest) (bytes : List ℕ) (h : Header) (fault : ImageFault) → h ≡ header_of bytes → PassAll (prefix_tests (header_of bytes) bytes) → PassAll (end_tests digest (header_of bytes) bytes) → IsFirstFault (section_tests h bytes) fault → IsImageFault digest bytes fault
+section_reported digest bytes h fault e front end reported =
+    reported_later (prefix_tests (header_of bytes) bytes) (end_tests digest (header_of bytes) bytes ++ section_tests (header_of bytes) bytes) fault front
+    (reported_later (end_tests digest (header_of bytes) bytes) (section_tests (header_of bytes) bytes) fault end (subst (λ (g : Header). IsFirstFault (section_tests g bytes) fault) e reported))
 
 pub all_pass : (digest : DigestTest) (bytes : List ℕ) (h : Header) → h ≡ header_of bytes → PassAll (prefix_tests (header_of bytes) bytes) → PassAll (end_tests digest (header_of bytes) bytes) → PassAll (section_tests h bytes) → IsAccepted digest bytes
 all_pass digest bytes h e front end rest =
@@ -38,19 +38,19 @@ all_pass digest bytes h e front end rest =
     (pass_both (end_tests digest (header_of bytes) bytes) (section_tests (header_of bytes) bytes) end (subst (λ (g : Header). PassAll (section_tests g bytes)) e rest))
 
 -- accepted bytes pass the tests before those of the keys
-pass_front : (xs ys : List Test) → PassAll (xs ++ ys) → PassAll xs × PassAll ys
-pass_front [] ys p = (tt, p)
-pass_front (x ∷ xs) ys p = let more = pass_front xs ys p.1 in ((p.0, more.0), more.1)
+pass_prefix : (xs ys : List Test) → PassAll (xs ++ ys) → PassAll xs × PassAll ys
+pass_prefix [] ys p = (tt, p)
+pass_prefix (x ∷ xs) ys p = let more = pass_prefix xs ys p.1 in ((p.0, more.0), more.1)
 
 pub to_keys : (digest : DigestTest) (bytes : List ℕ) → IsAccepted digest bytes → ReachKeys digest bytes
 to_keys digest bytes accepted =
     let h = header_of bytes in
-    let front = pass_front (prefix_tests h bytes) (end_tests digest h bytes ++ section_tests h bytes) accepted in
-    let ends = pass_front (end_tests digest h bytes) (section_tests h bytes) front.1 in
+    let front = pass_prefix (prefix_tests h bytes) (end_tests digest h bytes ++ section_tests h bytes) accepted in
+    let ends = pass_prefix (end_tests digest h bytes) (section_tests h bytes) front.1 in
     let keys : List Test = key_tests (key_form h.layout) h.groups (section bytes 5) ++ token_tests h (section bytes 6) (section bytes 7) (section bytes 8) in
     let system : List Test = system_tests h (section bytes 1) (section bytes 2) (section bytes 3) (section bytes 4) in
-    let numbers = pass_front (header_tests h) (system ++ keys) ends.1 in
-    (front.0, ends.0, (numbers.0, (pass_front system keys numbers.1).0))
+    let numbers = pass_prefix (header_tests h) (system ++ keys) ends.1 in
+    (front.0, ends.0, (numbers.0, (pass_prefix system keys numbers.1).0))
 
 -- ---- stages on equal sections
 

@@ -110,8 +110,8 @@ all_listed bytes groups starts at before so_far end =
     ((so_far.starts_are.listed, (nothing, tt)), so_far.starts_are)
 
 -- bytes follow the last key
-pub some_behind : (bytes : List ℕ) (groups : ℕ) (starts : List ℕ) (at : ℕ) (before : List ℕ) → AreListedUpTo bytes groups starts at before → at ≢ length bytes → IsFirstFault (key_tests key.Listed groups bytes) (BadSection 5)
-some_behind bytes groups starts at before so_far other =
+pub some_after : (bytes : List ℕ) (groups : ℕ) (starts : List ℕ) (at : ℕ) (before : List ℕ) → AreListedUpTo bytes groups starts at before → at ≢ length bytes → IsFirstFault (key_tests key.Listed groups bytes) (BadSection 5)
+some_after bytes groups starts at before so_far other =
     inr (
       so_far.starts_are.listed,
       inl (
@@ -125,7 +125,7 @@ some_behind bytes groups starts at before so_far other =
     )
 
 -- the first key that breaks its rule is reported
-pub told_key : (bytes : List ℕ) (groups n : ℕ) (starts : List ℕ) (at : ℕ) (before : List ℕ) → AreListedUpTo bytes n starts at before → n < groups → (IsKeyAbove (drop at bytes) before → ⊥)
+pub reported_key : (bytes : List ℕ) (groups n : ℕ) (starts : List ℕ) (at : ℕ) (before : List ℕ) → AreListedUpTo bytes n starts at before → n < groups → (IsKeyAbove (drop at bytes) before → ⊥)
     → IsFirstFault (key_tests key.Listed groups bytes) (BadKey n)
-told_key bytes groups n starts at before so_far less none =
+reported_key bytes groups n starts at before so_far less none =
     inl (n, record { below = less; before = so_far.starts_are.listed; without = not_listed bytes n starts at before so_far none }, refl)

@@ -32,19 +32,19 @@ rest_of_part bytes from start to following before =
     let at : from + n ≡ start = omega arith in
     ap (λ (k : ℕ). drop n (take k (drop from bytes))) all ∙ drop-take n (to - start) (drop from bytes) ∙ ap (take (to - start)) (drop-drop n from bytes) ∙ ap (λ (k : ℕ). take (to - start) (drop k bytes)) at
 
-front_of_part : (bytes : List ℕ) (from end to : ℕ) → end ≤ to → take (end - from) (slice_range bytes from to) ≡ slice_range bytes from end
-front_of_part bytes from end to before = take-take (end - from) (to - from) (drop from bytes) (omega arith)
+prefix_of_part : (bytes : List ℕ) (from end to : ℕ) → end ≤ to → take (end - from) (slice_range bytes from to) ≡ slice_range bytes from end
+prefix_of_part bytes from end to before = take-take (end - from) (to - from) (drop from bytes) (omega arith)
 
 parts_join : (bytes : List ℕ) (from at to : ℕ) → from ≤ at → at ≤ to → slice_range bytes from at ++ slice_range bytes at to ≡ slice_range bytes from to
 parts_join bytes from at to following before =
     let whole = slice_range bytes from to in
-    ap (λ (xs : List ℕ). xs ++ slice_range bytes at to) (sym (front_of_part bytes from at to before))
+    ap (λ (xs : List ℕ). xs ++ slice_range bytes at to) (sym (prefix_of_part bytes from at to before))
     ∙ ap (λ (xs : List ℕ). take (at - from) whole ++ xs) (sym (rest_of_part bytes from at to following before)) ∙ take-append-drop (at - from) whole
 
 part_of_part : (bytes : List ℕ) (from to start end : ℕ) → from ≤ start → start ≤ end → end ≤ to → slice_range (slice_range bytes from to) (start - from) (end - from) ≡ slice_range bytes start end
 part_of_part bytes from to start end following forward before =
     let n : end - from - (start - from) ≡ end - start = omega arith in
-    ap (λ (k : ℕ). take k (drop (start - from) (slice_range bytes from to))) n ∙ ap (take (end - start)) (rest_of_part bytes from start to following (omega arith)) ∙ front_of_part bytes start end to before
+    ap (λ (k : ℕ). take k (drop (start - from) (slice_range bytes from to))) n ∙ ap (take (end - start)) (rest_of_part bytes from start to following (omega arith)) ∙ prefix_of_part bytes start end to before
 
 -- ---- parts of a stretch
 
@@ -88,7 +88,7 @@ end_before bytes from to start end s following before some within text = elim (c
   | inl past ↦
       let left = left_is_text bytes from to start end s following before some within text in
       let whole = slice_range bytes start end in
-      let front = subst IsUtf8 (sym (front_of_part bytes start to end (omega (arith, past)))) left in
+      let front = subst IsUtf8 (sym (prefix_of_part bytes start to end (omega (arith, past)))) left in
       let at = IsCharBoundary-from_take whole (to - start) text (omega (arith, part_length bytes start end within, past)) front in
       absurd (s.ends end past within (subst IsUtf8 (rest_of_part bytes start to end before (omega (arith, past))) (IsUtf8-drop whole (to - start) text at)))
   | inr fits ↦ fits
@@ -99,7 +99,7 @@ end_is_cut : (bytes : List ℕ) (from to start end : ℕ) → IsUtf8Run bytes fr
 end_is_cut bytes from to start end s following before some short text =
     let w = s.within in
     let left = left_is_text bytes from to start end s following before some (omega (arith, short, w)) text in
-    let front = subst IsUtf8 (sym (front_of_part bytes start end to short)) text in
+    let front = subst IsUtf8 (sym (prefix_of_part bytes start end to short)) text in
     segmented_line bytes start to end w (omega (arith, some)) (IsCharBoundary-from_take (slice_range bytes start to) (end - start) left (omega (arith, part_length bytes start to w, short)) front)
 
 -- the parts that start in a stretch and are UTF-8
@@ -121,13 +121,13 @@ stretch_to_fault bytes from n within v =
     let long = part_length bytes from size (omega arith) in
     let short = v.short in
     let back : from + n - from ≡ n = omega arith in
-    let front : take n rest ≡ slice_range bytes from (from + n) = subst (λ (k : ℕ). take k rest ≡ take (from + n - from) (drop from bytes)) back (front_of_part bytes from (from + n) size (omega (arith, short, long))) in (
+    let front : take n rest ≡ slice_range bytes from (from + n) = subst (λ (k : ℕ). take k rest ≡ take (from + n - from) (drop from bytes)) back (prefix_of_part bytes from (from + n) size (omega (arith, short, long))) in (
       record {
         forward = omega arith;
         within = omega (arith, short, long);
         is_text = subst IsUtf8 front v.front;
         ends = λ end past fits text.
-            let whole = parts_join bytes from (from + n) end (omega arith) (omega (arith, past)) ∙ sym (front_of_part bytes from end size fits) in
+            let whole = parts_join bytes from (from + n) end (omega arith) (omega (arith, past)) ∙ sym (prefix_of_part bytes from end size fits) in
             v.longest (end - from) (omega (arith, past)) (subst IsUtf8 whole (IsUtf8-append (slice_range bytes from (from + n)) (slice_range bytes (from + n) end) (subst IsUtf8 front v.front) text));
       },
       omega (arith, short, long),
@@ -200,9 +200,9 @@ none_wrong bytes text = all_wrong bytes [] 0 (none_before bytes) (stretch_to_end
 abbrev pub ArePast : List ℕ → ℕ → ℕ → Type 0
 ArePast wrong place n = IsPartitionPoint (λ w. ltb w place ≡ true) (λ w. ltb w place ≡ false) wrong n
 
-start_behind : (wrong : List ℕ) (place n : ℕ) → ArePast wrong place n → stretch_start wrong n ≤ place
-start_behind wrong place zero past = omega arith
-start_behind wrong place (suc k) past = let less = ltb-true (slice_index wrong k) place (past.0 k 0 (omega arith) (omega arith)) in omega (arith, less)
+start_after : (wrong : List ℕ) (place n : ℕ) → ArePast wrong place n → stretch_start wrong n ≤ place
+start_after wrong place zero past = omega arith
+start_after wrong place (suc k) past = let less = ltb-true (slice_index wrong k) place (past.0 k 0 (omega arith) (omega arith)) in omega (arith, less)
 
 -- the result of `get`, or a default
 pub read_or : (xs : List ℕ) (n d : ℕ) (found : Option (Bor ℕ)) → is_some found ≡ nat_lt n (length xs) → IfSome found (λ x. x.now ≡ get_or xs n x.now) → unwrap_or (option_copied found) d ≡ get_or xs n d
@@ -215,7 +215,7 @@ stretch_of bytes wrong place n w within past fits = elim (cases_lt n (length wro
       let here : IsEndOf bytes place (slice_index wrong n) = record {
         from = stretch_start wrong n;
         stretch = w.before.each n less;
-        following = start_behind wrong place n past;
+        following = start_after wrong place n past;
         before = ltb-false (slice_index wrong n) place (past.1 n 0 (omega arith) less);
       } in
       subst (λ (to : ℕ). IsEndOf bytes place to) (sym (get_or_default_zero wrong n (length bytes) less)) here
@@ -224,7 +224,7 @@ stretch_of bytes wrong place n w within past fits = elim (cases_lt n (length wro
       let here : IsEndOf bytes place (length bytes) = record {
         from = stretch_start wrong (length wrong);
         stretch = w.last;
-        following = subst (λ (i : ℕ). stretch_start wrong i ≤ place) e (start_behind wrong place n past);
+        following = subst (λ (i : ℕ). stretch_start wrong i ≤ place) e (start_after wrong place n past);
         before = within;
       } in
       subst (λ (to : ℕ). IsEndOf bytes place to) (sym (get_or_past wrong n (length bytes) all)) here

@@ -81,8 +81,8 @@ two_tails a b (c ∷ more) h k s =
 
 -- ---- the characters that a first byte starts
 
-pub one_begun : (a : ℕ) → a ≤ 0x7F → IsAfter Between a Between
-one_begun a h more = (
+pub one_started : (a : ℕ) → a ≤ 0x7F → IsAfter Between a Between
+one_started a h more = (
   λ u. closed-IsUtf8 0 0 a more (omega arith) (steps a more u).1,
   λ u. IsUtf8-append (a ∷ []) more (utf8 (a ∷ []) (first (omega arith) (inl (omega arith)), omega arith)) u,
 )
@@ -99,8 +99,8 @@ two_to : (a : ℕ) (more : List ℕ) → (0xC2 ≤ a) × (a ≤ 0xDF) → IsOneT
 two_to a [] h t = absurd t
 two_to a (b ∷ more) h t = two_bytes a b more h (t.0, t.1) t.2
 
-pub two_begun : (a : ℕ) → (0xC2 ≤ a) × (a ≤ 0xDF) → IsAfter Between a OneTail
-two_begun a h more = (λ u. two_from a more h (steps a more u).1, two_to a more h)
+pub two_started : (a : ℕ) → (0xC2 ≤ a) × (a ≤ 0xDF) → IsAfter Between a OneTail
+two_started a h more = (λ u. two_from a more h (steps a more u).1, two_to a more h)
 
 three_from : (a least most : ℕ) (more : List ℕ) → (0xE0 ≤ a) × (a ≤ 0xEF) → least_after a ≡ least → most_after a ≡ most → StepsThen IsClosed 0 0 a more → ByteThen least most IsOneTail more
 three_from a least most [] h l m s = absurd (omega arith)
@@ -115,8 +115,8 @@ three_to a least most [] h l m t = absurd t
 three_to a least most (b ∷ []) h l m t = absurd t.2
 three_to a least most (b ∷ c ∷ more) h l m t = three_bytes a b c more h (omega arith) (t.2.0, t.2.1) t.2.2
 
-three_begun : (a least most : ℕ) → (0xE0 ≤ a) × (a ≤ 0xEF) → least_after a ≡ least → most_after a ≡ most → (more : List ℕ) → IsUtf8 (a ∷ more) ↔ ByteThen least most IsOneTail more
-three_begun a least most h l m more = (λ u. three_from a least most more h l m (steps a more u).1, three_to a least most more h l m)
+three_started : (a least most : ℕ) → (0xE0 ≤ a) × (a ≤ 0xEF) → least_after a ≡ least → most_after a ≡ most → (more : List ℕ) → IsUtf8 (a ∷ more) ↔ ByteThen least most IsOneTail more
+three_started a least most h l m more = (λ u. three_from a least most more h l m (steps a more u).1, three_to a least most more h l m)
 
 four_from : (a least most : ℕ) (more : List ℕ) → (0xF0 ≤ a) × (a ≤ 0xF4) → least_after a ≡ least → most_after a ≡ most → StepsThen IsClosed 0 0 a more → ByteThen least most AreTwoTails more
 four_from a least most [] h l m s = absurd (omega arith)
@@ -132,29 +132,29 @@ four_to a least most (b ∷ []) h l m t = absurd t.2
 four_to a least most (b ∷ c ∷ []) h l m t = absurd t.2.2
 four_to a least most (b ∷ c ∷ d ∷ more) h l m t = four_bytes a b c d more h (omega arith) (t.2.0, t.2.1) (t.2.2.0, t.2.2.1) t.2.2.2
 
-four_begun : (a least most : ℕ) → (0xF0 ≤ a) × (a ≤ 0xF4) → least_after a ≡ least → most_after a ≡ most → (more : List ℕ) → IsUtf8 (a ∷ more) ↔ ByteThen least most AreTwoTails more
-four_begun a least most h l m more = (λ u. four_from a least most more h l m (steps a more u).1, four_to a least most more h l m)
+four_started : (a least most : ℕ) → (0xF0 ≤ a) × (a ≤ 0xF4) → least_after a ≡ least → most_after a ≡ most → (more : List ℕ) → IsUtf8 (a ∷ more) ↔ ByteThen least most AreTwoTails more
+four_started a least most h l m more = (λ u. four_from a least most more h l m (steps a more u).1, four_to a least most more h l m)
 
-pub begun_by_e0 : (a : ℕ) → a ≡ 0xE0 → IsAfter Between a AfterE0
-begun_by_e0 a e = three_begun a 0xA0 0xBF (omega arith) (let l = least_is a in omega arith) (let m = most_is a in omega arith)
+pub started_by_e0 : (a : ℕ) → a ≡ 0xE0 → IsAfter Between a AfterE0
+started_by_e0 a e = three_started a 0xA0 0xBF (omega arith) (let l = least_is a in omega arith) (let m = most_is a in omega arith)
 
-pub begun_by_ed : (a : ℕ) → a ≡ 0xED → IsAfter Between a AfterEd
-begun_by_ed a e = three_begun a 0x80 0x9F (omega arith) (let l = least_is a in omega arith) (let m = most_is a in omega arith)
+pub started_by_ed : (a : ℕ) → a ≡ 0xED → IsAfter Between a AfterEd
+started_by_ed a e = three_started a 0x80 0x9F (omega arith) (let l = least_is a in omega arith) (let m = most_is a in omega arith)
 
-pub begun_by_f0 : (a : ℕ) → a ≡ 0xF0 → IsAfter Between a AfterF0
-begun_by_f0 a e = four_begun a 0x90 0xBF (omega arith) (let l = least_is a in omega arith) (let m = most_is a in omega arith)
+pub started_by_f0 : (a : ℕ) → a ≡ 0xF0 → IsAfter Between a AfterF0
+started_by_f0 a e = four_started a 0x90 0xBF (omega arith) (let l = least_is a in omega arith) (let m = most_is a in omega arith)
 
-pub begun_by_f4 : (a : ℕ) → a ≡ 0xF4 → IsAfter Between a AfterF4
-begun_by_f4 a e = four_begun a 0x80 0x8F (omega arith) (let l = least_is a in omega arith) (let m = most_is a in omega arith)
+pub started_by_f4 : (a : ℕ) → a ≡ 0xF4 → IsAfter Between a AfterF4
+started_by_f4 a e = four_started a 0x80 0x8F (omega arith) (let l = least_is a in omega arith) (let m = most_is a in omega arith)
 
-pub begun_before_ed : (a : ℕ) → (0xE1 ≤ a) × (a ≤ 0xEC) → IsAfter Between a TwoTails
-begun_before_ed a h = three_begun a 0x80 0xBF (omega arith) (let l = least_is a in omega arith) (let m = most_is a in omega arith)
+pub started_before_ed : (a : ℕ) → (0xE1 ≤ a) × (a ≤ 0xEC) → IsAfter Between a TwoTails
+started_before_ed a h = three_started a 0x80 0xBF (omega arith) (let l = least_is a in omega arith) (let m = most_is a in omega arith)
 
-pub begun_past_ed : (a : ℕ) → (0xEE ≤ a) × (a ≤ 0xEF) → IsAfter Between a TwoTails
-begun_past_ed a h = three_begun a 0x80 0xBF (omega arith) (let l = least_is a in omega arith) (let m = most_is a in omega arith)
+pub started_past_ed : (a : ℕ) → (0xEE ≤ a) × (a ≤ 0xEF) → IsAfter Between a TwoTails
+started_past_ed a h = three_started a 0x80 0xBF (omega arith) (let l = least_is a in omega arith) (let m = most_is a in omega arith)
 
-pub begun_before_f4 : (a : ℕ) → (0xF1 ≤ a) × (a ≤ 0xF3) → IsAfter Between a ThreeTails
-begun_before_f4 a h = four_begun a 0x80 0xBF (omega arith) (let l = least_is a in omega arith) (let m = most_is a in omega arith)
+pub started_before_f4 : (a : ℕ) → (0xF1 ≤ a) × (a ≤ 0xF3) → IsAfter Between a ThreeTails
+started_before_f4 a h = four_started a 0x80 0xBF (omega arith) (let l = least_is a in omega arith) (let m = most_is a in omega arith)
 
 -- a byte that starts no character
 no_first : (a : ℕ) → 0x80 ≤ a → Step 0 0 0 a → 0xC0 ≤ a
@@ -174,5 +174,5 @@ none_from : (a : ℕ) (more : List ℕ) → 0x80 ≤ a → (0xC2 ≤ a → 0xF4 
 none_from a [] h k s = let lead = no_first a h s.0 in omega arith
 none_from a (b ∷ more) h k s = no_second a b k (no_first a h s.0) s.1.0
 
-pub none_begun : (a : ℕ) → 0x80 ≤ a → (0xC2 ≤ a → 0xF4 < a) → IsAfter Between a Broken
-none_begun a h k more = (λ u. none_from a more h k (steps a more u), λ none. absurd none)
+pub none_started : (a : ℕ) → 0x80 ≤ a → (0xC2 ≤ a → 0xF4 < a) → IsAfter Between a Broken
+none_started a h k more = (λ u. none_from a more h k (steps a more u), λ none. absurd none)

@@ -26,8 +26,8 @@ module _ (cells : List Cell) (root : IsRoot cells) where
 
   -- ---- from cell to cell
 
-  pub stands_twice : (groups t group : ℕ) (places : List ℕ) → IsScanned groups cells t places → group < groups → base cells t ≡ negsuc group → (slice_index places group ≡ 0 → ⊥) → HoldEach groups cells → ⊥
-  stands_twice groups t group places is below at found each = elim ((is.placed group below).held) [
+  pub appears_twice : (groups t group : ℕ) (places : List ℕ) → IsScanned groups cells t places → group < groups → base cells t ≡ negsuc group → (slice_index places group ≡ 0 → ⊥) → HoldEach groups cells → ⊥
+  appears_twice groups t group places is below at found each = elim ((is.placed group below).held) [
     | inl none ↦ found none
     | inr before ↦
         let once = each.once group below in

@@ -18,11 +18,11 @@ cost_after sizes costs lefts rights column row = cost_between sizes costs lefts 
 
 -- each cost of a cached row is the one that is stored for the left id and the right id with its
 -- number
-pub record IsCacheRow (near : CostCache) (s : SectionRow) (row : List ℤ) : Type 0 where
-  pub short : length row ≤ length near.ids.rights.ids
-  pub each : (right number : ℕ) (cost : ℤ) → slice_get near.ids.rights.ids number ≡ Some right → slice_get row number ≡ Some cost → cost ≡ stored_in s right
+pub record IsCacheRow (cache : CostCache) (s : SectionRow) (row : List ℤ) : Type 0 where
+  pub short : length row ≤ length cache.ids.rights.ids
+  pub each : (right number : ℕ) (cost : ℤ) → slice_get cache.ids.rights.ids number ≡ Some right → slice_get row number ≡ Some cost → cost ≡ stored_in s right
 
 -- the cache holds the costs between its ids
-pub record IsCostCache (sizes : MatrixSizes) (costs : List ℕ) (near : CostCache) : Type 0 where
-  pub ids : AreOfSizes sizes near.ids
-  pub rows : AreRows (cost_between sizes costs near.ids.lefts.ids near.ids.rights.ids) (length near.ids.rights.ids) (length near.ids.lefts.ids) near.costs.items
+pub record IsCostCache (sizes : MatrixSizes) (costs : List ℕ) (cache : CostCache) : Type 0 where
+  pub ids : AreOfSizes sizes cache.ids
+  pub rows : AreRows (cost_between sizes costs cache.ids.lefts.ids cache.ids.rights.ids) (length cache.ids.rights.ids) (length cache.ids.lefts.ids) cache.costs.items

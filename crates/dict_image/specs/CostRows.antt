@@ -33,7 +33,7 @@ stored_in s right = stored_cost s.sizes s.costs.now right s.left
 pub record IsCachedRow (r : CachedRow) : Type 0 where
   pub section : IsSectionRow r.section
   pub numbers : length r.numbers.now ≡ r.section.sizes.right
-  pub near : (right number : ℕ) (cost : ℤ) → slice_get r.numbers.now right ≡ Some number → slice_get r.near.now number ≡ Some cost → cost ≡ stored_in r.section right
+  pub cached : (right number : ℕ) (cost : ℤ) → slice_get r.numbers.now right ≡ Some number → slice_get r.cached.now number ≡ Some cost → cost ≡ stored_in r.section right
 
 -- the row can be read
 abbrev pub IsCostRow : CostRow → Type 0

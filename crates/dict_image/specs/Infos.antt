@@ -10,6 +10,7 @@ pub record AreWhole (entries : List ℕ) : Type 0 where
   pub fill : AreFilled entries
   pub short : (i : ℕ) → i < own_entries → (entry_at entries i).head < 256
 
+-- section 3 in this form can be read
 abbrev pub AreReadable : InfoForm → List ℕ → Type 0
 AreReadable info.Listed infos = AreWhole infos
 AreReadable info.Ranges infos = AreInOrder infos

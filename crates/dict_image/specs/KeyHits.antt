@@ -13,7 +13,7 @@ abbrev pub key_cells : KeyForm → List ℕ → List Cell
 key_cells key.Listed keys = []
 key_cells key.Cells keys = stored_cells keys
 
--- the iterator as contracts see it
+-- the iterator as contracts describe it
 abbrev pub hits_view : KeyHits → HitsView
 hits_view (hits.Listed it) = record { hits = it.hits; cells = []; text = it.text; walked = it.walked }
 hits_view (hits.Cells it) = it

@@ -7,12 +7,13 @@ use Rattle.dict_image.specs.declared.key_range.KeyRange.{KeyRange}
 use Rattle.dict_image.specs.Groups.{hit_in}
 use Rattle.dict_image.specs.KeyLists.{KeyList}
 
--- the prefixes longer than `n` bytes, the shortest first: their lengths, and their numbers
+-- the listed keys longer than `n` bytes that are prefixes of a text, the shortest first: their
+-- lengths in bytes, and their numbers
 abbrev pub listed_hits_after : KeyList → List ℕ → ℕ → List (ℕ × ℕ)
 listed_hits_after list text n = filter_map (hit_in (listed_number list.count list.bytes) text) (range_with_len (n + 1) (length text - n))
 
--- the iterator as contracts see it: the remaining hits, the text, and the number of bytes that were
--- walked
+-- the iterator as contracts describe it: the remaining hits, the text, and the number of bytes that
+-- were walked
 pub record ListedHitsView : Type 0 where
   pub hits : List (ℕ × ℕ)
   pub text : List ℕ
@@ -20,14 +21,14 @@ pub record ListedHitsView : Type 0 where
 
 -- a key starts with some bytes
 abbrev pub StartsWith : List ℕ → List ℕ → Type 0
-StartsWith key front = (rest : List ℕ) × (key ≡ front ++ rest)
+StartsWith key prefix = (rest : List ℕ) × (key ≡ prefix ++ rest)
 
--- the keys that start with `front` are those from `low` to before `high`
-pub record IsRangeOf (list : KeyList) (front : List ℕ) (low high : ℕ) : Type 0 where
+-- the keys that start with `prefix` are those from `low` to before `high`
+pub record IsRangeOf (list : KeyList) (prefix : List ℕ) (low high : ℕ) : Type 0 where
   pub order : low ≤ high
   pub within : high ≤ list.count
-  pub inside : (i : ℕ) → low ≤ i → i < high → StartsWith (listed_key list.bytes i) front
-  pub all : (i : ℕ) → i < list.count → StartsWith (listed_key list.bytes i) front → (low ≤ i) × (i < high)
+  pub inside : (i : ℕ) → low ≤ i → i < high → StartsWith (listed_key list.bytes i) prefix
+  pub all : (i : ℕ) → i < list.count → StartsWith (listed_key list.bytes i) prefix → (low ≤ i) × (i < high)
 
 -- the keys that start with the first bytes of a text
 pub record IsKeyRange (list : KeyList) (text : List ℕ) (started : KeyRange) : Type 0 where

@@ -18,11 +18,12 @@ prefix_at text lexicon n = (n, entries_under (take n text) lexicon)
 abbrev pub prefixes_in : List ℕ → List Lexeme → List (ℕ × List Token)
 prefixes_in text lexicon = filter has_entries (map (prefix_at text lexicon) (up_to (length text)))
 
--- the hit of a key: its length in bytes, and the tokens of its group
+-- the prefix of a hit, which is a length in bytes and a group: this length, and the tokens of the
+-- group
 abbrev pub prefix_in : LexiconSections → ℕ × ℕ → ℕ × List Token
 prefix_in s hit = (hit.0, tokens_in s.tokens s.features s.groups hit.1)
 
--- the iterator as contracts see it: the remaining prefixes, the cells of the double array, the
+-- the iterator as contracts describe it: the remaining prefixes, the cells of the double array, the
 -- text, and the number of bytes that were walked
 pub record PrefixesView : Type 0 where
   pub prefixes : List (ℕ × List Token)

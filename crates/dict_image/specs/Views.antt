@@ -1,4 +1,4 @@
--- Entries as contracts see them.
+-- Entries as contracts describe them.
 use Rattle.mj_model.specs.Tables.{Token}
 use Rattle.dict_image.specs.declared.entry_ref.EntryRef.{EntryRef}
 use Rattle.dict_image.specs.declared.ids_and_cost.IdsAndCost.{IdsAndCost}

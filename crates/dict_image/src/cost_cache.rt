@@ -52,15 +52,15 @@ fn cached_rows(
     requires costs { AreCosts sizes costs.now }
     requires lefts { AreBelow sizes.left lefts.now }
     requires rights { AreBelow sizes.right rights.now }
-    ensures { IfOk result (λ near. AreRows (cost_between sizes costs.now lefts.now rights.now)
-        (length rights.now) (length lefts.now) near.items) }
+    ensures { IfOk result (λ cached. AreRows (cost_between sizes costs.now lefts.now rights.now)
+        (length rights.now) (length lefts.now) cached.items) }
 {
     let count = lefts.len().checked_mul(rights.len()).ok_or(AllocError)?;
-    let mut near = vec![in alloc; 0; count]?;
+    let mut cached = vec![in alloc; 0; count]?;
     for column in 0..rights.len() {
-        set_column(costs, sizes, lefts, rights, column, &mut near);
+        set_column(costs, sizes, lefts, rights, column, &mut cached);
     }
-    Ok(near)
+    Ok(cached)
 }
 
 /// Copies the costs of one column, which are those of one right id.
@@ -70,26 +70,26 @@ fn set_column(
     lefts: &[u16],
     rights: &[u16],
     column: usize,
-    near: &mut [i16],
+    cached: &mut [i16],
 )
     requires costs { AreCosts sizes costs.now }
     requires lefts { AreBelow sizes.left lefts.now }
     requires rights { AreBelow sizes.right rights.now }
     requires column { column < length rights.now }
-    requires many { length near.old ≡ length lefts.now * length rights.now }
+    requires many { length cached.old ≡ length lefts.now * length rights.now }
     ensures { IsColumnSet (cost_after sizes costs.now lefts.now rights.now column)
-        (length rights.now) (length lefts.now) column near.old near.new }
+        (length rights.now) (length lefts.now) column cached.old cached.new }
 {
     let right = u32::from(rights[column]);
     for row in 0..lefts.len() {
         let left = u32::from(lefts[row]);
-        near[row * rights.len() + column] = cost_at(costs, sizes, right, left);
+        cached[row * rights.len() + column] = cost_at(costs, sizes, right, left);
     }
 }
 
 impl CostCache {
-    /// Returns the costs of connecting words with the left id of `section`, which has the costs
-    /// that are not cached.
+    /// Returns the costs of connecting any word to a following word with the left id of `section`,
+    /// from which the costs that are not cached are read.
     #[inline(always)]
     pub fn row<'a>(&'a self, section: SectionRow<'a>) -> CostRow<'a>
         requires cache { IsCostCache section.sizes section.costs.now self.now }
@@ -98,7 +98,7 @@ impl CostCache {
         ensures costs { costs_in_row result ≡ costs_in_section section.entry }
     {
         CostRow::Cached(CachedRow {
-            near: self.cached_row(section),
+            cached: self.cached_row(section),
             numbers: self.ids.rights.numbers(),
             section,
         })

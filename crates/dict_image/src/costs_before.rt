@@ -53,7 +53,7 @@ pub(crate) struct SectionRow<'a> {
 /// its index in that row, or an index after the row's end.
 #[derive(Clone, Copy, Drop)]
 pub(crate) struct CachedRow<'a> {
-    pub near: &'a [i16],
+    pub cached: &'a [i16],
     pub numbers: &'a [u16],
     pub section: SectionRow<'a>,
 }
@@ -122,7 +122,7 @@ fn cached_cost(row: CachedRow<'_>, right: usize) -> Option<i16>
     ensures { IfSome result (λ cost. cost ≡ stored_in row.entry.section right) }
 {
     let number = row.numbers[right];
-    let cost = *row.near.get(usize::from(number))?;
+    let cost = *row.cached.get(usize::from(number))?;
     Some(cost)
 }
 
@@ -166,7 +166,7 @@ impl Dict {
                 let width = self.header().sizes.right as usize;
                 CostRow::InRow(row_of(rows, width, usize::from(left)))
             }
-            CostTable::Cache(near) => near.row(self.section_row(left)),
+            CostTable::Cache(cached) => cached.row(self.section_row(left)),
         }
     }
 

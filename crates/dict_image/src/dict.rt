@@ -30,8 +30,8 @@ use mj_model::{Category, MatrixSizes};
 use std::alloc::{AllocError, Global};
 use std::marker::Model;
 
-/// A dictionary, either system or user. It owns the bytes of its image and reads most of it in
-/// place.
+/// A dictionary, either system or user. It holds the bytes of its image, owned or borrowed, and
+/// reads most of it in place.
 #[derive(Drop)]
 pub struct Dict {
     bytes: ImageBytes,
@@ -185,7 +185,7 @@ impl Dict {
         }
     }
 
-    /// Returns the group with the surface `key`.
+    /// Returns the number of the group of the surface `key`, if the lexicon has it.
     pub(crate) fn group_of(&self, key: &[u8]) -> Option<u32>
         ensures group { result ≡ group_under self.now key.now }
         ensures formed { IsImage self.now }

@@ -13,7 +13,7 @@ use crate::entry_ref::{EntryRef, token_at};
 use image_format::u32_at;
 use std::marker::Model;
 
-/// An iterator over the remaining entries, in the order of their numbers.
+/// An iterator over entries with consecutive numbers, in the order of their numbers.
 #[derive(Drop)]
 pub struct Entries<'a> {
     tokens: &'a [u8],
@@ -51,7 +51,8 @@ impl<'a> Entries<'a> {
         }
     }
 
-    /// Returns the entries of list `i` of `index`.
+    /// Returns the entries of list `i` of `index`, the section of groups or of unknown tokens.
+    /// `tokens` and `features` are the sections of tokens and of features.
     #[inline(always)]
     pub(crate) fn of_list(
         index: &[u8],

@@ -13,8 +13,8 @@ use crate::entries::Entries;
 use crate::key_hits::KeyHits;
 use std::marker::Model;
 
-/// An iterator over the surfaces that are prefixes of a text, the shortest first, with their
-/// entries.
+/// An iterator over the surfaces that are prefixes of a text, the shortest first: their lengths in
+/// bytes, and their entries.
 ///
 /// Contracts describe it by the remaining surfaces, the cells of the double array, the text, and
 /// the number of bytes that were walked.
@@ -44,6 +44,7 @@ impl<'a> Model for Prefixes<'a> {
 }
 
 impl<'a> Prefixes<'a> {
+    /// Returns the surfaces of `dict` that are prefixes of `text`.
     #[inline(always)]
     pub(crate) fn new(dict: &'a Dict, text: &'a [u8]) -> Prefixes<'a>
         ensures prefixes { result.prefixes ≡ prefixes_in text.now (image_tables dict.now).lexicon }
@@ -83,7 +84,7 @@ impl<'a> Iterator for Prefixes<'a> {
     }
 }
 
-/// The surface of the next hit.
+/// Returns the length in bytes and the entries of the next surface.
 #[inline(always)]
 fn next_prefix<'a>(dict: &'a Dict, hits: &mut KeyHits<'a>) -> Option<(usize, Entries<'a>)>
     requires groups { AreHitsIn dict.now (hits_view hits.old).hits }

@@ -74,9 +74,9 @@ fn end_in_plane(ranges: &[u8], i: usize) -> usize
 }
 
 /// Returns the categories of a code point from the table of the plane or, beyond the plane, from
-/// its range. `near` is a guess at that range.
+/// its range. `hint` is the number of the range that is tried first; any value is allowed.
 #[inline(always)]
-pub(crate) fn plane_info(entries: &[u32], ranges: &[u8], code: u32, near: &mut usize) -> CharInfo
+pub(crate) fn plane_info(entries: &[u32], ranges: &[u8], code: u32, hint: &mut usize) -> CharInfo
     requires order { AreInOrder ranges.now }
     requires entries { AreOfPlane ranges.now entries.now }
     ensures { result ≡ stored_info ranges.now code }
@@ -85,6 +85,6 @@ pub(crate) fn plane_info(entries: &[u32], ranges: &[u8], code: u32, near: &mut u
     if at < BASIC_PLANE {
         info_of(entries[at])
     } else {
-        info_at(ranges, code, near)
+        info_at(ranges, code, hint)
     }
 }

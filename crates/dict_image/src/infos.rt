@@ -1,4 +1,4 @@
-//! The categories of code points by their entries.
+//! The categories of code points by their 32-bit entries in section 3.
 ghost use Rattle.std.specs.Prelude.{◌≡◌, ◌/◌, ◌^◌, ◌<◌};
 ghost use Rattle.image_format.specs.ImageSections.{info_of_entry};
 ghost use Rattle.image_format.specs.OlderSections.{listed_info};
@@ -7,8 +7,8 @@ ghost use Rattle.dict_image.specs.Infos.{AreWhole};
 use image_format::{OWN_ENTRIES, u32_at};
 use mj_model::CharInfo;
 
-/// Returns the categories of a code point from a list of entries. Code points from U+FFFF on have
-/// the entry of U+0000.
+/// Returns the categories of a code point from the list of entries of layouts 1 and 2. Code points
+/// from U+FFFF on have the entry of U+0000.
 pub(crate) fn listed_at(entries: &[u8], code: u32) -> CharInfo
     requires { AreWhole entries.now }
     ensures { result ≡ listed_info entries.now code }

@@ -1,7 +1,10 @@
 //! Compiled dictionaries: loads an image and looks up surfaces, unknown words, character categories
 //! and connection costs in it. Use it to read a dictionary; `word_lookup` and `segmenter` build on
-//! it. `load` tests an image with `validation`, `load_written` takes one that this program wrote, and
-//! `load_trusted` one that is known to be intact.
+//! it. `load` tests an image with `validation`. `load_written` skips the tests for an image that
+//! this program wrote, and `load_trusted` for one that is known to be intact.
+//!
+//! An image stores an entry as a token, whose feature is in a section of its own. The tokens of one
+//! surface are a group, and its key is the surface.
 //!
 //! Example:
 //!
@@ -57,6 +60,6 @@ pub use hits::Prefixes;
 pub use ids_and_cost::IdsAndCost;
 pub use image_format::DigestTest;
 pub use loading::{
-    load, load_image_bytes, load_testing, load_trusted, load_without_digest, load_written,
+    load, load_checking, load_image_bytes, load_trusted, load_without_digest, load_written,
 };
 pub use numbered_ids::{NUMBERED_MAX, NumberedIds};

@@ -29,6 +29,7 @@ impl<'a> Model for ListedKeys<'a> {
 }
 
 impl<'a> ListedKeys<'a> {
+    /// Returns the keys of the section `bytes`, whose lengths are stored at the offsets `starts`.
     pub(crate) fn new(bytes: &'a [u8], starts: &'a [usize]) -> ListedKeys<'a>
         requires starts { AreStarts (length starts.now) bytes.now starts.now }
         requires few { length starts.now ≤ 2 ^ 32 }

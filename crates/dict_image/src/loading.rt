@@ -2,7 +2,7 @@
 ghost use Rattle.std.specs.Prelude.{◌≡◌, IfErr, IfOk, OnOk};
 ghost use Rattle.image_format.specs.ImageBytes.{header_of};
 ghost use Rattle.image_format.specs.ImageFaults.{IsAccepted, IsIntact, IsWellFormed};
-ghost use Rattle.image_format.specs.declared.digest_test.DigestTest.TheVariants.{Made, Skipped};
+ghost use Rattle.image_format.specs.declared.digest_test.DigestTest.TheVariants.{Verified, Skipped};
 ghost use Rattle.image_format.specs.declared.layout.TheConstants.{LAYOUT as Layout};
 ghost use Rattle.dict_image.specs.Validation.BeforeMemory.{ReachKeys};
 ghost use Rattle.mj_model.specs.declared.image_fault.ImageFault.TheVariants.{Memory};
@@ -16,15 +16,16 @@ use mj_model::ImageFault;
 use std::alloc::{AllocError, Global};
 
 /// Returns the dictionary of an intact image, or the first error of its bytes in the order of
-/// docs/FORMAT.md. Takes `bytes`, and frees them on an error.
+/// docs/FORMAT.md. Takes ownership of `bytes`, and frees them on an error.
 pub fn load(alloc: Global, bytes: Vec<u8>) -> Result<Dict, ImageFault>
     ensures dict { IfOk result (λ dict. dict ≡ bytes.items) }
     ensures accepted { OnOk result (IsIntact bytes.items) }
-    ensures rejected { IfErr result (IsLoadFault Made bytes.items) }
+    ensures rejected { IfErr result (IsLoadFault Verified bytes.items) }
     // Memory is allocated only after the tests that precede those of the keys.
-    ensures out_of_memory { IfErr result (λ fault. fault ≡ Memory → ReachKeys Made bytes.items) }
+    ensures out_of_memory { IfErr result
+        (λ fault. fault ≡ Memory → ReachKeys Verified bytes.items) }
 {
-    load_testing(alloc, bytes, DigestTest::Made)
+    load_checking(alloc, bytes, DigestTest::Verified)
 }
 
 /// Returns the dictionary of a well-formed image, without testing its SHA-256, which takes most of
@@ -37,12 +38,12 @@ pub fn load_without_digest(alloc: Global, bytes: Vec<u8>) -> Result<Dict, ImageF
     ensures out_of_memory { IfErr result
         (λ fault. fault ≡ Memory → ReachKeys Skipped bytes.items) }
 {
-    load_testing(alloc, bytes, DigestTest::Skipped)
+    load_checking(alloc, bytes, DigestTest::Skipped)
 }
 
 /// Returns the dictionary of an image, or the first error. `digest` decides whether the SHA-256 is
 /// tested.
-pub fn load_testing(alloc: Global, bytes: Vec<u8>, digest: DigestTest) -> Result<Dict, ImageFault>
+pub fn load_checking(alloc: Global, bytes: Vec<u8>, digest: DigestTest) -> Result<Dict, ImageFault>
     ensures dict { IfOk result (λ dict. dict ≡ bytes.items) }
     ensures accepted { OnOk result (IsAccepted digest bytes.items) }
     ensures rejected { IfErr result (IsLoadFault digest bytes.items) }

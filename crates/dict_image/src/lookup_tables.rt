@@ -20,8 +20,8 @@ pub(crate) struct LookupTables {
 }
 
 /// Returns the lookup tables of an image. Allocates 4 bytes for each code point of the basic plane
-/// if section 3 has ranges, a copy of the connection costs if they are few, and 3 bytes for each
-/// category.
+/// if section 3 has ranges, a copy of the connection costs if they are few, otherwise 2 bytes for
+/// each context id, and 3 bytes for each category.
 pub(crate) fn lookup_tables_of(
     alloc: Global,
     bytes: &[u8],

@@ -7,26 +7,26 @@ use crate::infos::info_of;
 use image_format::u32_at;
 use mj_model::CharInfo;
 
-/// Returns the categories of a code point. `near` is the number of the range that is tried first;
-/// it is set to the range found. Otherwise runs a binary search.
-pub(crate) fn info_at(ranges: &[u8], code: u32, near: &mut usize) -> CharInfo
+/// Returns the categories of a code point. `hint` is the number of the range that is tried first,
+/// and is set to that of the range found. Runs a binary search if the code point is in another one.
+pub(crate) fn info_at(ranges: &[u8], code: u32, hint: &mut usize) -> CharInfo
     requires { AreInOrder ranges.now }
     ensures info { result ≡ stored_info ranges.now code }
-    ensures hinted { IsLastUpTo ranges.now code near.new }
+    ensures hinted { IsLastUpTo ranges.now code hint.new }
 {
-    let i = last_with_hint(ranges, code, *near);
-    *near = i;
+    let i = last_with_hint(ranges, code, *hint);
+    *hint = i;
     info_of(u32_at(ranges, 8 * i + 4))
 }
 
 /// Returns the number of the last range that starts at or before a code point. Does not search if
-/// it is `near`.
-fn last_with_hint(ranges: &[u8], code: u32, near: usize) -> usize
+/// it is `hint`.
+fn last_with_hint(ranges: &[u8], code: u32, hint: usize) -> usize
     requires { AreInOrder ranges.now }
     ensures { IsLastUpTo ranges.now code result }
 {
-    if is_last_up_to(ranges, code, near) {
-        near
+    if is_last_up_to(ranges, code, hint) {
+        hint
     } else {
         last_up_to(ranges, code)
     }

@@ -1,7 +1,7 @@
 //! Costs in rows of equal width.
 ghost use Rattle.std.specs.Prelude.{◌≡◌, ◌+◌, ◌*◌, ◌≤◌, length, slice_range};
 
-/// Returns a row of a table whose rows have `width` costs.
+/// Returns row `number` of a table whose rows have `width` costs.
 #[inline(always)]
 pub(crate) fn row_of(rows: &[i16], width: usize, number: usize) -> &[i16]
     requires { number * width + width ≤ length rows.now }

@@ -33,15 +33,15 @@ impl Dict {
         ensures info { result ≡ (image_tables self.now).info c }
         ensures first { result.head < length (image_tables self.now).categories }
     {
-        let mut near = 0;
-        self.info_with_hint(c, &mut near)
+        let mut hint = 0;
+        self.info_with_hint(c, &mut hint)
     }
 
-    /// Returns the categories of a character, for a caller that reads many in turn. `near` is the
+    /// Returns the categories of a character, for a caller that reads many in turn. `hint` is the
     /// number of the range found last, which is tried first; any value is allowed. It is not used
     /// in the basic plane.
     #[inline(always)]
-    pub fn info_with_hint(&self, c: char, near: &mut usize) -> CharInfo
+    pub fn info_with_hint(&self, c: char, hint: &mut usize) -> CharInfo
         requires { (image_tables self.now).kind ≡ System }
         ensures info { result ≡ (image_tables self.now).info c }
         ensures first { result.head < length (image_tables self.now).categories }
@@ -49,7 +49,7 @@ impl Dict {
         let code = c as u32;
         match self.info_table() {
             InfoTable::InSection => listed_at(self.section(Infos), code),
-            InfoTable::OfPlane(entries) => plane_info(entries, self.section(Infos), code, near),
+            InfoTable::OfPlane(entries) => plane_info(entries, self.section(Infos), code, hint),
         }
     }
 

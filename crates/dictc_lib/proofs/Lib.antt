@@ -2,5 +2,6 @@ pub mod FileLineLemmas
 pub mod ListingLemmas
 pub mod MatrixFileLemmas
 pub mod PairLemmas
+pub mod ReadingErrorLemmas
 pub mod SurfaceLemmas
 pub mod TemplateLemmas

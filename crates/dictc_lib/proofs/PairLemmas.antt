@@ -49,8 +49,8 @@ pub cost_at : (entries : List IdsAndCost) (i : ℕ) (entry : IdsAndCost) → sli
 cost_at entries i entry there fits = (entry, there, sym (to_z-of_z w16 entry.cost fits))
 
 -- the entries after those of the first pair are fewer
-pub behind_shorter : (entries rest : List IdsAndCost) (row : PairRow) → IsFirstRow entries row rest → length rest < length entries
-behind_shorter entries rest row first =
+pub after_shorter : (entries rest : List IdsAndCost) (row : PairRow) → IsFirstRow entries row rest → length rest < length entries
+after_shorter entries rest row first =
     let long : length entries ≡ length first.0 + length rest = ap length first.1 ∙ length-append first.0 rest in
     omega (arith, long, first.2)
 

@@ -1,4 +1,4 @@
--- What reading the host's files gives. No contract can say what is in a file at a path, so these
+-- The results of reading the host's files. No contract determines a file's contents, so these
 -- relate a path only to the path of the result and to its errors.
 use Rattle.std.specs.Prelude.{◌≡◌, ℕ, List, Result, IfErr, IfOk, string_bytes}
 use Rattle.command_lines.specs.declared.dictc.choices.Command.{Command}

@@ -6,6 +6,7 @@ pub mod Listings
 pub mod MatrixFiles
 pub mod PairRows
 pub mod Rejections
+pub mod RequestErrors
 pub mod RequestedImages
 pub mod SourceContents
 pub mod Statuses

@@ -62,12 +62,16 @@ IsRejection IsPath all_faults fault Reported = (all_faults ≡ true) × IsOfALin
 IsRejection IsPath all_faults fault (ForFault reported) =
     (all_faults ≡ true → IsOfALine fault → ⊥) × (path : Option (Bor (List ℕ))) × IsPath path × IsErrorAt path fault reported
 
+-- the error has not been reported yet, and `IsOne` holds of it
+abbrev pub IsForFault : (Fault → Type 0) → CompileError → Type 0
+IsForFault IsOne Reported = ⊥
+IsForFault IsOne (ForFault fault) = IsOne fault
+
 -- the first error of `matrix.def` is reported with its path
 abbrev pub IsMatrixRejection : List ℕ → SourceFiles → CompileError → Type 0
-IsMatrixRejection matrix files Reported = ⊥
-IsMatrixRejection matrix files (ForFault reported) =
-    (fault : SourceFault) × IsErrorOfMatrix matrix fault
-    × (path : Option (Bor (List ℕ))) × IsFound (string_bytes files.matrix) path × IsErrorAt path fault reported
+IsMatrixRejection matrix files =
+    IsForFault (λ reported. (fault : SourceFault) × IsErrorOfMatrix matrix fault
+    × (path : Option (Bor (List ℕ))) × IsFound (string_bytes files.matrix) path × IsErrorAt path fault reported)
 
 -- the error of the other files is reported, or out of memory
 abbrev pub IsRejectionOfFiles : List ℕ → SourceFiles → Bool → CompileError → Type 0
@@ -82,8 +86,7 @@ IsRejectionOfSources matrix files all_faults error = IsMatrixRejection matrix fi
 
 -- the image at this path is reported as no system dictionary, unless an allocation failed
 abbrev pub IsNotSystemAt : List ℕ → CompileError → Type 0
-IsNotSystemAt dic Reported = ⊥
-IsNotSystemAt dic (ForFault reported) = Names (λ name. Overlay name NotSystem) dic reported
+IsNotSystemAt dic = IsForFault (Names (λ name. Overlay name NotSystem) dic)
 
 -- the error of a user dictionary's lexicons, or of its system dictionary, is reported
 abbrev pub IsRejectionOfLexicons : List ℕ → List ℕ → List WholeFile → Bool → CompileError → Type 0

@@ -19,7 +19,7 @@ is_lexicon (step.Sorted n) = false
 
 -- after these steps the reporter has counted the lexicons that were read, up to `usize::MAX`
 abbrev pub HasReported : List CompileStep → ProgressReporter → Type 0
-HasReported steps teller = teller.read ≡ min (count_by is_lexicon steps) (2 ^ 64 - 1)
+HasReported steps progress = progress.read ≡ min (count_by is_lexicon steps) (2 ^ 64 - 1)
 
 -- the number of lexicons read after a step
 abbrev pub read_after : CompileStep → ℕ → ℕ

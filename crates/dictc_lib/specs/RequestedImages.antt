@@ -1,5 +1,5 @@
 -- The image that a command line requests: what the files that it names compile to.
-use Rattle.std.specs.Prelude.{ℕ, List, Result, Ok, String, string_bytes}
+use Rattle.std.specs.Prelude.{◌≡◌, ℕ, List, Result, Ok, String, string_bytes}
 use Rattle.std.specs.List.{AllZip}
 use Rattle.std.specs.declared.alloc.Global.{Global}
 use Rattle.command_lines.specs.declared.dictc.choices.Base.{Base}
@@ -28,22 +28,34 @@ pub record AreSourcesReadFrom (reads : List ℕ → Result WholeFile Fault → T
   pub unk_read : reads (string_bytes unk) (Ok files.unk)
   pub lexicons_read : AreReadFrom reads lexicons files.lexicons.items
 
--- the image is what the sources at these paths compile to, with the `matrix.def` that is the result
--- of reading its path
+-- the sources at these paths were read, with `matrix.def` as `bytes` and the others as `files`
+pub record AreSystemFilesReadFrom (reads_costs : List ℕ → Result MatrixFile Fault → Type 0) (reads : List ℕ → Result WholeFile Fault → Type 0)
+    (matrix chars unk : String Global) (lexicons : List (String Global)) (bytes : List ℕ) (files : SourceFiles) : Type 0 where
+  pub costs : MatrixFile
+  pub costs_read : reads_costs (string_bytes matrix) (Ok costs)
+  pub enough_read : HasReadEnough bytes costs
+  pub matrix_path : string_bytes files.matrix ≡ string_bytes matrix
+  pub others_read : AreSourcesReadFrom reads chars unk lexicons files
+
+-- the image at the path `dic` was loaded as `system`, and the lexicons at these paths were read
+pub record AreUserFilesReadFrom (reads : List ℕ → Result WholeFile Fault → Type 0) (loads : List ℕ → DigestTest → Result (List ℕ) Fault → Type 0)
+    (dic : String Global) (digest : DigestTest) (lexicons : List (String Global)) (system : List ℕ) (files : List WholeFile) : Type 0 where
+  pub system_loaded : loads (string_bytes dic) digest (Ok system)
+  pub lexicons_read : AreReadFrom reads lexicons files
+
+-- the image is what the sources at these paths compile to
 abbrev pub IsSystemImageFrom : (List ℕ → Result MatrixFile Fault → Type 0) → (List ℕ → Result WholeFile Fault → Type 0)
     → String Global → String Global → String Global → List (String Global) → Compiled → Type 0
 IsSystemImageFrom reads_costs reads matrix chars unk lexicons compiled =
-    (costs : MatrixFile) × (bytes : List ℕ) × (files : SourceFiles)
-    × reads_costs (string_bytes matrix) (Ok costs) × HasReadEnough bytes costs × AreSourcesReadFrom reads chars unk lexicons files
-    × IsCompiledFromFiles bytes files compiled
+    (bytes : List ℕ) × (files : SourceFiles)
+    × AreSystemFilesReadFrom reads_costs reads matrix chars unk lexicons bytes files × IsCompiledFromFiles bytes files compiled
 
--- the image is what the lexicons at these paths compile to, for the system dictionary that is the
--- result of loading its path
+-- the image is what the lexicons at these paths compile to, for the system dictionary of the image
+-- at the path `dic`
 abbrev pub IsUserImageFrom : (List ℕ → Result WholeFile Fault → Type 0) → (List ℕ → DigestTest → Result (List ℕ) Fault → Type 0)
     → String Global → DigestTest → List (String Global) → Compiled → Type 0
 IsUserImageFrom reads loads dic digest lexicons compiled =
-    (system : List ℕ) × (files : List WholeFile)
-    × loads (string_bytes dic) digest (Ok system) × AreReadFrom reads lexicons files
+    (system : List ℕ) × (files : List WholeFile) × AreUserFilesReadFrom reads loads dic digest lexicons system files
     × IsUserCompiledFrom system (contents_of files) compiled × FindsUserKeysFrom system (contents_of files) compiled
 
 -- the image is what lexicons compile to with this base

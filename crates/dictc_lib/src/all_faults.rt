@@ -37,8 +37,8 @@ pub(crate) fn is_of_a_line(fault: SourceFault) -> bool
 pub(crate) fn print_faults(
     rt: &HostRuntime,
     reporter: &Reporter<'_>,
-    context: CompileContext<'_>,
     lexicons: &mut [WholeFile],
+    context: CompileContext<'_>,
     first: SourceFault,
 ) {
     let mut reported = Vec::new(rt.alloc());

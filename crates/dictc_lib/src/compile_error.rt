@@ -42,7 +42,7 @@ impl From<Fault> for CompileError {
 impl From<AllocError> for CompileError {
     ghost from_gives = { λ _ reported. reported ≡ ForFault Memory };
 
-    fn from(_refused: AllocError) -> CompileError {
+    fn from(_error: AllocError) -> CompileError {
         CompileError::Fault(Fault::Memory)
     }
 }

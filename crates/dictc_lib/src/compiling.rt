@@ -4,6 +4,7 @@ ghost use Rattle.std.specs.Prelude.{◌≡◌, ◌∷◌, IfErr, IfOk, OnOk, map
 ghost use Rattle.dict_compile.specs.declared.compiled.Compiled.{Compiled as CompiledOf};
 ghost use Rattle.programs.specs.Faults.{NamesOneOf};
 ghost use Rattle.dictc_lib.specs.HostFiles.{host_loads, host_reads, host_reads_costs};
+ghost use Rattle.dictc_lib.specs.RequestErrors.{IsImageError, IsReportError, IsRequestError, IsSystemError, IsUserDictionaryError};
 ghost use Rattle.dictc_lib.specs.RequestedImages.{AreReadFrom, AreSourcesReadFrom, IsRequestedImage, IsSystemImageFrom, IsUserImageFrom};
 
 use crate::compile_error::CompileError;
@@ -24,8 +25,9 @@ const PROGRAM: &str = "dictc";
 
 /// Compiles a dictionary, writes its image, and prints the number of entries on standard output.
 pub fn compile_and_report(rt: &HostRuntime, options: &Options) -> Result<(), CompileError>
-    ensures { OnOk result ((compiled : CompiledOf)
+    ensures compiled { OnOk result ((compiled : CompiledOf)
         × IsRequestedImage host_reads_costs host_reads host_loads options.now compiled) }
+    ensures rejected { IfErr result (IsReportError options.now) }
 {
     let reporter = Reporter::new(rt, PROGRAM, options.verbose);
     let compiled = compile_image(rt, &reporter, rt, options)?;
@@ -40,7 +42,10 @@ pub fn compile_image<F: FileAccess>(
     files: &F,
     options: &Options,
 ) -> Result<Compiled, CompileError>
-    ensures { IfOk result (IsRequestedImage F.reads_costs F.reads F.loads options.now) }
+    ensures compiled { IfOk result
+        (IsRequestedImage F.reads_costs F.reads F.loads options.now) }
+    ensures rejected { IfErr result
+        (IsImageError F.reads_costs F.reads F.loads options.now) }
 {
     let compiled = match compile_files(rt, reporter, files, options) {
         Ok(compiled) => compiled,
@@ -71,7 +76,10 @@ fn compile_files<F: FileAccess>(
     files: &F,
     options: &Options,
 ) -> Result<Compiled, CompileError>
-    ensures { IfOk result (IsRequestedImage F.reads_costs F.reads F.loads options.now) }
+    ensures compiled { IfOk result
+        (IsRequestedImage F.reads_costs F.reads F.loads options.now) }
+    ensures rejected { IfErr result
+        (IsRequestError F.reads_costs F.reads F.loads options.now) }
 {
     match &options.base {
         Base::Definitions { matrix, chars, unk } => {
@@ -94,8 +102,10 @@ fn compile_definitions<F: FileAccess>(
     chars: &String,
     unk: &String,
 ) -> Result<Compiled, CompileError>
-    ensures { IfOk result (IsSystemImageFrom F.reads_costs F.reads matrix.now chars.now unk.now
-        options.now.lexicons.items) }
+    ensures compiled { IfOk result (IsSystemImageFrom F.reads_costs F.reads matrix.now chars.now
+        unk.now options.now.lexicons.items) }
+    ensures rejected { IfErr result (IsSystemError F.reads_costs F.reads matrix.now chars.now
+        unk.now options.now.lexicons.items options.now.all_faults) }
 {
     let costs = files.read_costs(matrix.as_str())?;
     let mut sources = read_sources(rt.alloc(), files, options, matrix, chars, unk)?;
@@ -113,8 +123,10 @@ fn compile_for_system<F: FileAccess>(
     dic: &String,
     digest: DigestTest,
 ) -> Result<Compiled, CompileError>
-    ensures { IfOk result
+    ensures compiled { IfOk result
         (IsUserImageFrom F.reads F.loads dic.now digest options.now.lexicons.items) }
+    ensures rejected { IfErr result (IsUserDictionaryError F.reads F.loads dic.now digest
+        options.now.lexicons.items options.now.all_faults) }
 {
     let system = files.load(dic.as_str(), digest)?;
     reporter.log(Stage::Loaded { path: dic.as_str() });

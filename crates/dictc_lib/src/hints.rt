@@ -6,13 +6,13 @@ use programs::{Fault, Reporter, log_image_dirs};
 
 /// Prints the directories that were searched, if `end` is an image that can't be read, and how to
 /// get an explanation of the error.
-pub fn print_hints(rt: &HostRuntime, asked: &Command, end: &CompileError) {
+pub fn print_hints(rt: &HostRuntime, command: &Command, end: &CompileError) {
     let CompileError::Fault(fault) = end else {
         return;
     };
-    let reporter = Reporter::new(rt, "dictc", is_verbose(asked));
+    let reporter = Reporter::new(rt, "dictc", is_verbose(command));
     if let Fault::File(path) = fault {
-        if is_image(asked, path.as_str()) {
+        if is_image(command, path.as_str()) {
             log_image_dirs(rt, &reporter, fault);
         }
     }
@@ -20,16 +20,16 @@ pub fn print_hints(rt: &HostRuntime, asked: &Command, end: &CompileError) {
 }
 
 /// Returns whether log messages are requested.
-fn is_verbose(asked: &Command) -> bool {
-    match asked {
+fn is_verbose(command: &Command) -> bool {
+    match command {
         Command::Image(options) => options.verbose,
         Command::Ids(options) => options.verbose,
     }
 }
 
 /// Returns whether `path` is an image that the command reads.
-fn is_image(asked: &Command, path: &str) -> bool {
-    match asked {
+fn is_image(command: &Command, path: &str) -> bool {
+    match command {
         Command::Image(options) => match &options.base {
             Base::System { dic, .. } => dic.as_str() == path,
             Base::Definitions { .. } => false,

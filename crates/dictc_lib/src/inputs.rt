@@ -15,19 +15,19 @@ pub fn read_command(
     words: Vec<String>,
     texts: &Texts<'_>,
 ) -> Result<Command, OptionsFault> {
-    let mut asked = parse_command(rt.alloc(), words, texts)?;
-    find_images(rt, &mut asked)?;
-    if let Command::Image(parse_command) = &asked {
+    let mut command = parse_command(rt.alloc(), words, texts)?;
+    find_images(rt, &mut command)?;
+    if let Command::Image(parse_command) = &command {
         if overwrites_input(rt, parse_command) {
             return Err(overwritten_input(rt.alloc(), parse_command.out.as_str()));
         }
     }
-    Ok(asked)
+    Ok(command)
 }
 
 /// Replaces the name of each image that is read by its path.
-fn find_images(rt: &HostRuntime, asked: &mut Command) -> Result<(), OptionsFault> {
-    match asked {
+fn find_images(rt: &HostRuntime, command: &mut Command) -> Result<(), OptionsFault> {
+    match command {
         Command::Image(parse_command) => {
             if let Base::System { dic, .. } = &mut parse_command.base {
                 *dic = image_path(rt, dic.as_str())?;

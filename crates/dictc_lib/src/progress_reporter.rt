@@ -16,6 +16,8 @@ pub(crate) struct ProgressReporter<'a> {
 }
 
 impl<'a> ProgressReporter<'a> {
+    /// Returns a value that has reported no step. `lexicons` are the files in the order in which
+    /// they are read.
     pub(crate) fn new(reporter: &'a Reporter<'a>, lexicons: &'a [WholeFile]) -> ProgressReporter<'a>
         ensures { HasReported [] result }
     {
@@ -61,7 +63,7 @@ impl<'a> ProgressReporter<'a> {
 }
 
 impl<'a> Watch for ProgressReporter<'a> {
-    ghost reported = { λ teller steps. HasReported steps teller };
+    ghost reported = { λ progress steps. HasReported steps progress };
 
     fn done(&mut self, step: CompileStep) {
         let stage = self.stage(step);

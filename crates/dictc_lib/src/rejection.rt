@@ -25,7 +25,7 @@ pub(crate) fn rejection(
     ensures { IsRejection (IsPathIn context.entry lexicons.old fault.file) all_faults fault result }
 {
     if are_all_reported(all_faults, fault) {
-        print_faults(rt, reporter, context, lexicons, fault);
+        print_faults(rt, reporter, lexicons, context, fault);
         return CompileError::Reported;
     }
     if let Some(file) = context.entries(lexicons, fault.file) {

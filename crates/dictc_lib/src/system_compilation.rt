@@ -99,8 +99,8 @@ fn compile_others(
         unk: &files.unk.bytes,
         lexicons: &lexicons,
     };
-    let mut teller = ProgressReporter::new(reporter, &files.lexicons);
-    let compiled = compile_others_watched(rt.alloc(), matrix, &others, &mut teller)?;
+    let mut progress = ProgressReporter::new(reporter, &files.lexicons);
+    let compiled = compile_others_watched(rt.alloc(), matrix, &others, &mut progress)?;
     log_longest(rt.alloc(), reporter, &files.lexicons, &lexicons);
     warn_of_repeated(rt.alloc(), reporter, &lexicons);
     Ok(compiled)

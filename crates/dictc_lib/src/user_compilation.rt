@@ -67,8 +67,8 @@ fn compile_lexicons(
         Ok(texts) => texts,
         Err(refused) => return Err(CompileUserFault::Source(SourceFault::from(refused))),
     };
-    let mut teller = ProgressReporter::new(reporter, files);
-    let compiled = compile_user_watched(rt.alloc(), system, &texts, &mut teller)?;
+    let mut progress = ProgressReporter::new(reporter, files);
+    let compiled = compile_user_watched(rt.alloc(), system, &texts, &mut progress)?;
     log_longest(rt.alloc(), reporter, files, &texts);
     warn_of_repeated(rt.alloc(), reporter, &texts);
     Ok(compiled)

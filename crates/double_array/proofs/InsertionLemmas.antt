@@ -15,7 +15,7 @@ use Rattle.double_array.specs.Pool.IsInUse.{is_named}
 use Rattle.double_array.specs.Built.{values, MeetsInvariants, IsCleared}
 use Rattle.double_array.specs.Tail.{IsReady}
 use Rattle.double_array.specs.Insertion.{IsLongestMatch, HasRoom}
-use Rattle.double_array.proofs.RoomLemmas.{begun_same}
+use Rattle.double_array.proofs.RoomLemmas.{started_same}
 use Rattle.double_array.proofs.ViewLemmas.{at_same}
 use Rattle.mj_model.proofs.KeyWalks.{length-codes_of, code_of_byte, code_of_end, codes_end, walk_take_more, no_value_by_stop}
 use Rattle.double_array.proofs.Valued.{walk_same, map_same, keys_same, rules_same, valued_others, valued_rules, value_replaced, keys_valued}
@@ -94,7 +94,7 @@ grown_built old new n long left built grown top n_is few less =
         on_keys = keys_same old.cells new.cells grown.same built.on_keys;
         bases = λ t b at above. let r = built.bases t b (sym (ap (λ (x : Cell). x.0) (grown.same t)) ∙ at) above in (r.0, (let l = r.1 in omega (arith, l, top)));
         root = (built.root.0, ap (λ (x : Cell). x.0) (grown.same 0) ∙ built.root.1, built.root.2);
-        started = begun_same old.cells new.cells grown.same built.started;
+        started = started_same old.cells new.cells grown.same built.started;
         room = let r = built.room in omega (arith, r, top, more, n_is);
         few = omega (arith, more, few);
       };

@@ -14,9 +14,9 @@ use Rattle.double_array.proofs.CellMoveLaw.{free_no_check}
 use Rattle.mj_model.proofs.CellWalks.{step_named, step_place}
 use Rattle.double_array.proofs.ClearingLemmas.{has_child, has_child_there}
 
-pub begun_same : (old new : List Cell) → ((i : ℕ) → cell_at new i ≡ cell_at old i) → HasUsed old ⊎ (base old 0 ≡ pos 2) → HasUsed new ⊎ (base new 0 ≡ pos 2)
-begun_same old new same (inl u) = inl (u.0, u.1, ap (λ (x : Cell). x.1) (same u.0) ∙ u.2)
-begun_same old new same (inr root) = inr (ap (λ (x : Cell). x.0) (same 0) ∙ root)
+pub started_same : (old new : List Cell) → ((i : ℕ) → cell_at new i ≡ cell_at old i) → HasUsed old ⊎ (base old 0 ≡ pos 2) → HasUsed new ⊎ (base new 0 ≡ pos 2)
+started_same old new same (inl u) = inl (u.0, u.1, ap (λ (x : Cell). x.1) (same u.0) ∙ u.2)
+started_same old new same (inr root) = inr (ap (λ (x : Cell). x.0) (same 0) ∙ root)
 
 -- ---- a lower top
 

@@ -27,6 +27,7 @@ pub(crate) fn before(cells: &Cells, i: usize) -> usize
     cells.get(i).1.unsigned_abs() as usize
 }
 
+/// Sets the free cell after the free cell `i`.
 fn set_next(cells: &mut Cells, i: usize, next: usize)
     requires within { i < length cells.old }
     requires few { next ≤ 2 ^ 30 }
@@ -36,6 +37,7 @@ fn set_next(cells: &mut Cells, i: usize, next: usize)
     cells.set(i, next as i32, before);
 }
 
+/// Sets the free cell before the free cell `i`.
 fn set_before(cells: &mut Cells, i: usize, before: usize)
     requires within { i < length cells.old }
     requires few { before ≤ 2 ^ 30 }
@@ -45,6 +47,7 @@ fn set_before(cells: &mut Cells, i: usize, before: usize)
     cells.set(i, next, -(before as i32));
 }
 
+/// Makes cell `i` a free cell between the free cells `before` and `next`, which are unchanged.
 pub(crate) fn set_links(cells: &mut Cells, i: usize, next: usize, before: usize)
     requires within { i < length cells.old }
     requires few { (next ≤ 2 ^ 30) × (before ≤ 2 ^ 30) }
@@ -53,6 +56,7 @@ pub(crate) fn set_links(cells: &mut Cells, i: usize, next: usize, before: usize)
     cells.set(i, next as i32, -(before as i32));
 }
 
+/// Makes cell `i` a used cell with this base, to which a step from `state` leads.
 pub(crate) fn set_used(cells: &mut Cells, i: usize, base: i32, state: usize)
     requires within { i < length cells.old }
     requires few { state ≤ 2 ^ 30 }

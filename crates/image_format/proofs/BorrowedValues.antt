@@ -50,7 +50,7 @@ module _ {M : Type 1} {𝓤 : Ura M} (𝓛 : Logic 𝓤) where
       rewrite ! 0 (λ (p : Ptr). ‵ (lies_at (Array u8 count) share p xs)) (sym is) refl $ flt_i ! count (2 ^ 63) small $ fjoin ! $ check ! (sym counted, small) $ done !)))
 
   -- they make a value with their pointer and their count
-  pub lent_made : (share : Share) (at : Ptr) (count : ℕ) (xs : List ℕ) (counted : count ≡ length xs) → count < 2 ^ 64
+  pub borrowed_made : (share : Share) (at : Ptr) (count : ℕ) (xs : List ℕ) (counted : count ≡ length xs) → count < 2 ^ 64
       → ent 𝓤 (sem 𝓛 (shared_bytes share at count xs)) (sem 𝓛 (borrowed.the_row.own_val (record { at = at; len = count; bytes = xs; share = share; counted = counted }) (words at count ∷ [])))
-  lent_made share at count xs counted fits = qed 𝓛 (‵ (shared_bytes share at count xs) ∷ []) ∵
+  borrowed_made share at count xs counted fits = qed 𝓛 (‵ (shared_bytes share at count xs) ∷ []) ∵
       owned ! (Struct (shape borrowed.the_type)) _ (Struct-Makes 𝓛 (shape borrowed.the_type) (rawptr_pure, ((λ _ _. (tt, tt)), tt))) (at, (count, tt)) (words at count ∷ []) (words_are at count fits) $ fjoin ! $ done !

@@ -50,22 +50,22 @@ abbrev AreSound : List Test → Type 0
 AreSound [] = Unit {0}
 AreSound (test ∷ tests) = IsSound test × AreSound tests
 
-none_told : (tests : List Test) (fault : ImageFault) → AreSound tests → PassAll tests → IsFirstFault tests fault → ⊥
-none_told [] fault sound all reported = reported
-none_told (test ∷ tests) fault sound all (inl reports) = sound.0.not_both fault all.0 reports
-none_told (test ∷ tests) fault sound all (inr later) = none_told tests fault sound.1 all.1 later.1
+none_reported : (tests : List Test) (fault : ImageFault) → AreSound tests → PassAll tests → IsFirstFault tests fault → ⊥
+none_reported [] fault sound all reported = reported
+none_reported (test ∷ tests) fault sound all (inl reports) = sound.0.not_both fault all.0 reports
+none_reported (test ∷ tests) fault sound all (inr later) = none_reported tests fault sound.1 all.1 later.1
 
-some_told : (tests : List Test) → AreSound tests → (PassAll tests → ⊥) → ((fault : ImageFault) → IsFirstFault tests fault → ⊥) → ⊥
-some_told [] sound fails silent = fails tt
-some_told (test ∷ tests) sound fails silent =
-    sound.0.settled (λ passes. some_told tests sound.1 (λ all. fails (passes, all)) (λ fault reported. silent fault (inr (passes, reported)))) (λ fault reports. silent fault (inl reports))
+some_reported : (tests : List Test) → AreSound tests → (PassAll tests → ⊥) → ((fault : ImageFault) → IsFirstFault tests fault → ⊥) → ⊥
+some_reported [] sound fails silent = fails tt
+some_reported (test ∷ tests) sound fails silent =
+    sound.0.settled (λ passes. some_reported tests sound.1 (λ all. fails (passes, all)) (λ fault reported. silent fault (inr (passes, reported)))) (λ fault reports. silent fault (inl reports))
 
-one_told : (tests : List Test) (f g : ImageFault) → AreSound tests → IsFirstFault tests f → IsFirstFault tests g → f ≡ g
-one_told [] f g sound h k = absurd h
-one_told (test ∷ tests) f g sound (inl h) (inl k) = sound.0.one f g h k
-one_told (test ∷ tests) f g sound (inl h) (inr k) = absurd (sound.0.not_both f k.0 h)
-one_told (test ∷ tests) f g sound (inr h) (inl k) = absurd (sound.0.not_both g h.0 k)
-one_told (test ∷ tests) f g sound (inr h) (inr k) = one_told tests f g sound.1 h.1 k.1
+one_reported : (tests : List Test) (f g : ImageFault) → AreSound tests → IsFirstFault tests f → IsFirstFault tests g → f ≡ g
+one_reported [] f g sound h k = absurd h
+one_reported (test ∷ tests) f g sound (inl h) (inl k) = sound.0.one f g h k
+one_reported (test ∷ tests) f g sound (inl h) (inr k) = absurd (sound.0.not_both f k.0 h)
+one_reported (test ∷ tests) f g sound (inr h) (inl k) = absurd (sound.0.not_both g h.0 k)
+one_reported (test ∷ tests) f g sound (inr h) (inr k) = one_reported tests f g sound.1 h.1 k.1
 
 both_sound : (xs ys : List Test) → AreSound xs → AreSound ys → AreSound (xs ++ ys)
 both_sound [] ys x y = y
@@ -88,15 +88,15 @@ all_sound digest bytes =
 
 -- an accepted image has no error
 pub no_fault : (digest : DigestTest) (bytes : List ℕ) (fault : ImageFault) → IsAccepted digest bytes → IsImageFault digest bytes fault → ⊥
-no_fault digest bytes fault accepted h = none_told (image_tests digest (header_of bytes) bytes) fault (all_sound digest bytes) accepted h
+no_fault digest bytes fault accepted h = none_reported (image_tests digest (header_of bytes) bytes) fault (all_sound digest bytes) accepted h
 
 -- bytes have at most one first error
 pub fault_is_one : (digest : DigestTest) (bytes : List ℕ) (f g : ImageFault) → IsImageFault digest bytes f → IsImageFault digest bytes g → f ≡ g
-fault_is_one digest bytes f g h k = one_told (image_tests digest (header_of bytes) bytes) f g (all_sound digest bytes) h k
+fault_is_one digest bytes f g h k = one_reported (image_tests digest (header_of bytes) bytes) f g (all_sound digest bytes) h k
 
 -- bytes that are not accepted have an error
 pub some_fault : (digest : DigestTest) (bytes : List ℕ) → (IsAccepted digest bytes → ⊥) → ((fault : ImageFault) → IsImageFault digest bytes fault → ⊥) → ⊥
-some_fault digest bytes fails silent = some_told (image_tests digest (header_of bytes) bytes) (all_sound digest bytes) fails silent
+some_fault digest bytes fails silent = some_reported (image_tests digest (header_of bytes) bytes) (all_sound digest bytes) fails silent
 
 -- an intact image is well formed and has the right SHA-256; its test is the third of `end_tests`
 pub well_formed_of : (bytes : List ℕ) → IsIntact bytes → IsWellFormed bytes × HasDigest bytes

@@ -15,8 +15,8 @@ number_kept n at bytes more within =
     ∙ little_from-append n (drop at bytes) more (let e = length-drop at bytes in omega (arith, e, within))
 
 -- a number in appended bytes
-pub number_behind : (n k : ℕ) (bytes more : List ℕ) (at : ℕ) → at ≡ length bytes + k → number_at n (bytes ++ more) at ≡ number_at n more k
-number_behind n k bytes more at place =
+pub number_after : (n k : ℕ) (bytes more : List ℕ) (at : ℕ) → at ≡ length bytes + k → number_at n (bytes ++ more) at ≡ number_at n more k
+number_after n k bytes more at place =
     ap (number_at n (bytes ++ more)) place ∙ ap (little_number n) (drop-append-add bytes more k)
 
 -- a number that is read is the one that was written
@@ -29,7 +29,7 @@ range_kept bytes more a b order within =
     ∙ take-append-le (b - a) (drop a bytes) more (let e = length-drop a bytes in omega (arith, e, order, within))
 
 -- an appended text is read back
-pub range_behind : (bytes text : List ℕ) → slice_range (bytes ++ text) (length bytes) (length bytes + length text) ≡ text
-range_behind bytes text =
+pub range_after : (bytes text : List ℕ) → slice_range (bytes ++ text) (length bytes) (length bytes + length text) ≡ text
+range_after bytes text =
     ap (take (length bytes + length text - length bytes)) (drop_at bytes text (length bytes) refl)
     ∙ take_all (length bytes + length text - length bytes) text (omega arith)

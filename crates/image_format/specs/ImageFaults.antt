@@ -7,7 +7,7 @@ use Rattle.mj_model.specs.declared.limits.TheConstants.{ENTRIES_MAX, CATEGORIES_
 use Rattle.mj_model.specs.Connection.{AreMatrixSizes}
 use Rattle.mj_model.specs.CellMap.{Cell}
 use Rattle.image_format.specs.declared.digest_test.DigestTest.{DigestTest}
-use Rattle.image_format.specs.declared.digest_test.DigestTest.TheVariants.{Made, Skipped}
+use Rattle.image_format.specs.declared.digest_test.DigestTest.TheVariants.{Verified, Skipped}
 use Rattle.image_format.specs.declared.header.Header.{Header}
 use Rattle.image_format.specs.DictKinds.{IsKind}
 use Rattle.image_format.specs.declared.layout.InfoForm.{InfoForm}
@@ -60,7 +60,7 @@ IsFirstFault (test ∷ tests) fault = test.Reports fault ⊎ (test.Passes × IsF
 -- the remainder from offset `place` on is the SHA-256 of all bytes before it; skipping the test
 -- always passes (FIPS 180-4)
 abbrev pub IsDigestAt : DigestTest → ℕ → List ℕ → Type 0
-IsDigestAt Made place bytes = drop place bytes ≡ sha256 (take place bytes)
+IsDigestAt Verified place bytes = drop place bytes ≡ sha256 (take place bytes)
 IsDigestAt Skipped place bytes = Unit {0}
 
 -- in layout 3 the SHA-256 follows the sections
@@ -68,7 +68,7 @@ abbrev pub PassesDigest : DigestTest → List ℕ → Type 0
 PassesDigest digest bytes = (header_of bytes).layout ≡ 3 → IsDigestAt digest (section_end (header_of bytes) 8) bytes
 
 abbrev pub HasDigest : List ℕ → Type 0
-HasDigest bytes = PassesDigest Made bytes
+HasDigest bytes = PassesDigest Verified bytes
 
 -- the allowed numbers of categories and unknown tokens, by the kind of the dictionary
 abbrev pub AreCounts : Kind → ℕ → ℕ → Type 0
@@ -158,7 +158,7 @@ section_tests h bytes =
 abbrev pub image_tests : DigestTest → Header → List ℕ → List Test
 image_tests digest h bytes = prefix_tests h bytes ++ (end_tests digest h bytes ++ section_tests h bytes)
 
--- the bytes pass all tests; the SHA-256 is tested only if `digest` is `Made`
+-- the bytes pass all tests; the SHA-256 is tested only if `digest` is `Verified`
 abbrev pub IsAccepted : DigestTest → List ℕ → Type 0
 IsAccepted digest bytes = PassAll (image_tests digest (header_of bytes) bytes)
 
@@ -168,7 +168,7 @@ IsWellFormed bytes = IsAccepted Skipped bytes
 
 -- the bytes are a well-formed image with the right SHA-256
 abbrev pub IsIntact : List ℕ → Type 0
-IsIntact bytes = IsAccepted Made bytes
+IsIntact bytes = IsAccepted Verified bytes
 
 -- `fault` is the first error of bytes that are not accepted
 abbrev pub IsImageFault : DigestTest → List ℕ → ImageFault → Type 0

@@ -8,20 +8,20 @@ ghost use Rattle.image_format.specs.DigestTests.{test_by};
 #[derive(Clone, Copy, Debug, PartialEq, Eq, Drop)]
 pub enum DigestTest {
     /// The checksum is tested, so an image changed after it was compiled is rejected.
-    Made,
+    Verified,
     /// The checksum is not tested. The caller vouches that the image is unchanged.
     Skipped,
 }
 
 impl DigestTest {
-    /// Returns `Skipped` if `is_skipped`, otherwise `Made`.
+    /// Returns `Skipped` if `is_skipped`, otherwise `Verified`.
     pub fn skipped_if(is_skipped: bool) -> DigestTest
         ensures { result ≡ test_by is_skipped }
     {
         if is_skipped {
             DigestTest::Skipped
         } else {
-            DigestTest::Made
+            DigestTest::Verified
         }
     }
 }

@@ -16,7 +16,7 @@ use Rattle.image_format.specs.ImageBytes.{signed_4_at}
 use Rattle.image_format.specs.ImageSections.{stored_cell, stored_cells}
 use Rattle.image_writer.specs.TokenBytes.{cell_bytes_of}
 use Rattle.image_writer.specs.Written.{HoldsCells, HoldsNumbers}
-use Rattle.image_format.proofs.NumberLemmas.{number_kept, number_behind, number_back}
+use Rattle.image_format.proofs.NumberLemmas.{number_kept, number_after, number_back}
 
 -- ---- numbers of 4 bytes
 
@@ -29,7 +29,7 @@ numbers_more f n bytes x holds is fits =
         | inl before ↦ number_kept 4 (4 * g) bytes (little_bytes 4 x) (omega (arith, fill, before)) ∙ holds.each g before
         | inr now ↦
             let e : n ≡ g = omega (arith, now, less) in
-            number_behind 4 0 bytes (little_bytes 4 x) (4 * g) (omega (arith, fill, e)) ∙ number_back 4 x [] fits ∙ is ∙ ap f e
+            number_after 4 0 bytes (little_bytes 4 x) (4 * g) (omega (arith, fill, e)) ∙ number_back 4 x [] fits ∙ is ∙ ap f e
       ];
     }
 
@@ -48,9 +48,9 @@ cells_more cells n bytes b c holds at base check =
         | inr now ↦
             let e : n ≡ k = omega (arith, now, less) in
             let first : signed_4_at (bytes ++ more) (8 * k) ≡ b =
-            ap (cast_signed w32) (number_behind 4 0 bytes more (8 * k) (omega (arith, fill, e)) ∙ number_back 4 (cast_unsigned w32 b) (little_bytes 4 (cast_unsigned w32 c)) (Fits-of_z base).fits) ∙ to_z-of_z w32 b base in
+            ap (cast_signed w32) (number_after 4 0 bytes more (8 * k) (omega (arith, fill, e)) ∙ number_back 4 (cast_unsigned w32 b) (little_bytes 4 (cast_unsigned w32 c)) (Fits-of_z base).fits) ∙ to_z-of_z w32 b base in
             let second : signed_4_at (bytes ++ more) (8 * k + 4) ≡ c =
-            ap (cast_signed w32) (number_behind 4 4 bytes more (8 * k + 4) (omega (arith, fill, e)) ∙ number_back 4 (cast_unsigned w32 c) [] (Fits-of_z check).fits) ∙ to_z-of_z w32 c check in
+            ap (cast_signed w32) (number_after 4 4 bytes more (8 * k + 4) (omega (arith, fill, e)) ∙ number_back 4 (cast_unsigned w32 c) [] (Fits-of_z check).fits) ∙ to_z-of_z w32 c check in
             (λ j. (first j, second j)) ∙ sym (get_or_from_slice_get cells n (b, c) free_cell at) ∙ ap (cell_at cells) e
       ];
     }

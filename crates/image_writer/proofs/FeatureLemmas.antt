@@ -18,7 +18,7 @@ use Rattle.image_writer.specs.declared.features.FeatureStore.{FeatureStore}
 use Rattle.image_writer.specs.Compact.{features_once}
 use Rattle.image_writer.specs.Entries.{tokens_of}
 use Rattle.image_writer.specs.Sections.{HasPlace, HoldsTexts, HoldsOneMore, IsNextUse, IsPlaced, HasTextAt, features_in, features_of, place_after, IsTooLarge}
-use Rattle.image_format.proofs.NumberLemmas.{range_kept, range_behind}
+use Rattle.image_format.proofs.NumberLemmas.{range_kept, range_after}
 use Rattle.image_writer.proofs.FirstUseLemmas.{beyond, within}
 use Rattle.image_writer.proofs.TokenLemmas.{in_pushed}
 
@@ -83,14 +83,14 @@ size_of texts store holds = ap length (holds.bytes ∙ concat_is (each_once text
 
 -- ---- the store
 
-stands_more : (bytes more text : List ℕ) (place : ℕ) → HasTextAt bytes text place → HasTextAt (bytes ++ more) text place
-stands_more bytes more text place is_stored = record {
+appears_more : (bytes more text : List ℕ) (place : ℕ) → HasTextAt bytes text place → HasTextAt (bytes ++ more) text place
+appears_more bytes more text place is_stored = record {
   within = let w = is_stored.within in let e = length-append bytes more in omega (arith, w, e);
   is = range_kept bytes more place (place + length text) (omega arith) is_stored.within ∙ is_stored.is;
 }
 
-stands_behind : (bytes text : List ℕ) → HasTextAt (bytes ++ text) text (length bytes)
-stands_behind bytes text = record { within = let e = length-append bytes text in omega (arith, e); is = range_behind bytes text }
+appears_after : (bytes text : List ℕ) → HasTextAt (bytes ++ text) text (length bytes)
+appears_after bytes text = record { within = let e = length-append bytes text in omega (arith, e); is = range_after bytes text }
 
 -- a text that was stored before
 pub found_placed : (texts : List (List ℕ)) (text : List ℕ) (store : FeatureStore) (first : ℕ) (place : FeaturePlace) → HoldsTexts texts store → IsNextUse texts text first
@@ -116,7 +116,7 @@ added_placed texts text old new first holds next none added kept =
     record {
       bytes = added ∙ ap (λ (bytes : List ℕ). bytes ++ text) holds.bytes ∙ concat_more (each_once texts) text
           ∙ ap concat (sym (each_once_more texts text ∙ ap (once_with (each_once texts) text) absent));
-      is_stored = record { is_stored = subst (λ (bytes : List ℕ). HasTextAt bytes text (length (features_in old))) (sym added) (stands_behind (features_in old) text); long = refl };
+      is_stored = record { is_stored = subst (λ (bytes : List ℕ). HasTextAt bytes text (length (features_in old))) (sym added) (appears_after (features_in old) text); long = refl };
       same_places = kept;
       more = text;
       kept = added;
@@ -134,10 +134,10 @@ no_room texts text store first holds next none full =
     omega (arith, sum, size, full)
 
 -- its position is stored
-pub place_noted : (texts : List (List ℕ)) (text : List ℕ) (old placed new : FeatureStore) (place : FeaturePlace) → HoldsTexts texts old → IsPlaced texts text old placed place
+pub place_recorded : (texts : List (List ℕ)) (text : List ℕ) (old placed new : FeatureStore) (place : FeaturePlace) → HoldsTexts texts old → IsPlaced texts text old placed place
     → features_in new ≡ features_in placed → new.places.items ≡ placed.places.items ++ place ∷ [] → HoldsOneMore texts text old new place
-place_noted texts text old placed new place holds is same noted =
-    let places : new.places.items ≡ old.places.items ++ place ∷ [] = noted ∙ ap (λ (ps : List FeaturePlace). ps ++ place ∷ []) is.same_places in
+place_recorded texts text old placed new place holds is same recorded =
+    let places : new.places.items ≡ old.places.items ++ place ∷ [] = recorded ∙ ap (λ (ps : List FeaturePlace). ps ++ place ∷ []) is.same_places in
     let kept = same ∙ is.kept in
     let is_stored = subst (λ (bytes : List ℕ). HasPlace bytes text place) (sym same) is.is_stored in
     let long = holds.long in
@@ -149,7 +149,7 @@ place_noted texts text old placed new place holds is same noted =
           | inl before ↦ elim (in_pushed old.places.items place i p (ap (λ (ps : List FeaturePlace). slice_get ps i) (sym places) ∙ at)) [
             | inl its ↦
                 let has = holds.places i t p before.1 its.1 in
-                record { is_stored = subst (λ (bytes : List ℕ). HasTextAt bytes t p.start) (sym kept) (stands_more (features_in old) is.more t p.start has.is_stored); long = has.long }
+                record { is_stored = subst (λ (bytes : List ℕ). HasTextAt bytes t p.start) (sym kept) (appears_more (features_in old) is.more t p.start has.is_stored); long = has.long }
             | inr last ↦ let low = before.0 in let e = last.0 in absurd (omega (arith, low, e, long))
           ]
           | inr now ↦ elim (in_pushed old.places.items place i p (ap (λ (ps : List FeaturePlace). slice_get ps i) (sym places) ∙ at)) [

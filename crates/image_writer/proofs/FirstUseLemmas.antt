@@ -190,14 +190,14 @@ module _ (texts : List (List ℕ)) (uses : List FeatureUse) (are : AreUses texts
 -- the first uses of the features of the first k uses are stored, and `first` is that of the last of
 -- them
 pub record AreFirstUpTo (texts : List (List ℕ)) (uses : List FeatureUse) (k first : ℕ) (firsts : List ℕ) : Type 0 where
-  pub noted : (j : ℕ) → j < k → IsFirstUse texts (slice_index firsts (slice_index (entries_of uses) j)) (slice_index (entries_of uses) j)
+  pub recorded : (j : ℕ) → j < k → IsFirstUse texts (slice_index firsts (slice_index (entries_of uses) j)) (slice_index (entries_of uses) j)
   pub last : 0 < k → IsFirstUse texts first (slice_index (entries_of uses) (k - 1))
 
 -- one more first use is stored
-pub first_noted : (texts : List (List ℕ)) (uses : List FeatureUse) (k before first entry : ℕ) (firsts : List ℕ) → entry ≡ slice_index (entries_of uses) k → entry < length firsts
+pub first_recorded : (texts : List (List ℕ)) (uses : List FeatureUse) (k before first entry : ℕ) (firsts : List ℕ) → entry ≡ slice_index (entries_of uses) k → entry < length firsts
     → AreFirstUpTo texts uses k before firsts → IsFirstUse texts first (slice_index (entries_of uses) k) → AreFirstUpTo texts uses (k + 1) first (slice_set firsts entry first)
-first_noted texts uses k before first entry firsts is less up one = record {
-  noted = λ j low.
+first_recorded texts uses k before first entry firsts is less up one = record {
+  recorded = λ j low.
       let e = slice_index (entries_of uses) j in
       elim (cases_eq e entry) [
         | inl same ↦
@@ -208,14 +208,14 @@ first_noted texts uses k before first entry firsts is less up one = record {
               | inl l ↦ l
               | inr p ↦ let j_is : j ≡ k = omega (arith, low, p) in absurd (other (ap (slice_index (entries_of uses)) j_is ∙ sym is))
             ] in
-            subst (λ (f : ℕ). IsFirstUse texts f e) (sym (get_or-set_other firsts entry e first 0 other)) (up.noted j before_k)
+            subst (λ (f : ℕ). IsFirstUse texts f e) (sym (get_or-set_other firsts entry e first 0 other)) (up.recorded j before_k)
       ];
   last = λ some. let k_is : k ≡ k + 1 - 1 = omega arith in subst (λ (n : ℕ). IsFirstUse texts first (slice_index (entries_of uses) n)) k_is one;
 }
 
-pub all_noted : (texts : List (List ℕ)) (uses : List FeatureUse) (k first : ℕ) (firsts : List ℕ) → AreUses texts uses → length uses ≤ k → length firsts ≡ length uses
+pub all_recorded : (texts : List (List ℕ)) (uses : List FeatureUse) (k first : ℕ) (firsts : List ℕ) → AreUses texts uses → length uses ≤ k → length firsts ≡ length uses
     → AreFirstUpTo texts uses k first firsts → AreFirstUses texts firsts
-all_noted texts uses k first firsts are past long up = record {
+all_recorded texts uses k first firsts are past long up = record {
   long = long ∙ are.long;
   each = λ i less.
       let found = are.every i less in
@@ -223,7 +223,7 @@ all_noted texts uses k first firsts are past long up = record {
       let l = length-map uses (λ (u : FeatureUse). u.entry) in
       let low : p < k = let w = found.1 in omega (arith, w, l, past) in
       let is : slice_index (entries_of uses) p ≡ i = get_or_default (entries_of uses) p 0 i found.1 ∙ found.2 in
-      subst (λ (n : ℕ). IsFirstUse texts (slice_index firsts n) n) is (up.noted p low);
+      subst (λ (n : ℕ). IsFirstUse texts (slice_index firsts n) n) is (up.recorded p low);
 }
 
 -- ---- uses before they are sorted

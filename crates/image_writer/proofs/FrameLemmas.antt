@@ -83,8 +83,8 @@ module _ (h : Header) (sections : List (List ℕ)) (eight : length sections ≡ 
   abbrev pub front : List ℕ
   front = image_magic ++ number_bytes h
 
-  front_length : length front ≡ 40
-  front_length =
+  prefix_length : length front ≡ 40
+  prefix_length =
       let m = items_length (little_bytes 4) 4 (λ x. length-bytes_low_first 0 4 x) (number_list h) in
       length-append image_magic (number_bytes h) ∙ ap (λ k. 8 + k) m
 
@@ -96,7 +96,7 @@ module _ (h : Header) (sections : List (List ℕ)) (eight : length sections ≡ 
       let m : length (length_bytes h.lengths) ≡ 64 = items_length (little_bytes 8) 8 (λ x. length-bytes_low_first 0 8 x) h.lengths ∙ ap (λ k. 8 * k) eight_lengths in
       ap length (sym (append_assoc image_magic (number_bytes h) (length_bytes h.lengths)))
       ∙ length-append front (length_bytes h.lengths)
-      ∙ ap (λ k. length front + k) m ∙ ap (λ k. k + 64) front_length
+      ∙ ap (λ k. length front + k) m ∙ ap (λ k. k + 64) prefix_length
 
   module _ (digest image : List ℕ) (is : image ≡ (header ++ joined sections) ++ digest) where
     around : image ≡ header ++ (joined sections ++ digest)
@@ -116,7 +116,7 @@ module _ (h : Header) (sections : List (List ℕ)) (eight : length sections ≡ 
 
     lengths_are : (header_of image).lengths ≡ h.lengths
     lengths_are =
-        let f = front_length in
+        let f = prefix_length in
         let e = eight_lengths in
         ext_get_or 0 (header_of image).lengths h.lengths (length-map-range_with_len (λ k. number_at 8 image (40 + 8 * k)) 0 8 ∙ sym e)
         (λ k less.

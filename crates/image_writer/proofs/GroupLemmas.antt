@@ -67,8 +67,8 @@ start_kept : (starts more : List ℕ) (g seen now : ℕ) → g < length starts �
 start_kept starts more g seen now less = get_or_append_left starts more now g less ∙ get_or_default starts g now seen less
 
 -- the next entry starts a group
-pub group_begun : (rows : List Row) (seen : ℕ) (starts : List ℕ) → AreGroups rows seen starts → AreGroups rows (seen + 1) (starts ++ seen ∷ [])
-group_begun rows seen starts groups =
+pub group_started : (rows : List Row) (seen : ℕ) (starts : List ℕ) → AreGroups rows seen starts → AreGroups rows (seen + 1) (starts ++ seen ∷ [])
+group_started rows seen starts groups =
     let long = length_push starts seen in
     let was : (g : ℕ) → g ≤ length starts → get_or (starts ++ seen ∷ []) g (seen + 1) ≡ get_or starts g seen = λ g le. elim (cases_lt g (length starts)) [
       | inl less ↦ start_kept starts (seen ∷ []) g seen (seen + 1) less
@@ -163,9 +163,9 @@ starts_below rows seen starts groups g less =
     let b = start_below rows seen starts groups (length starts - g) g (omega (arith, less)) in
     omega (arith, b, less)
 
-pub map_begun : (rows : List Row) → IsSortedByKey surface_of (slice_cmp nat_cmp) rows → (seen : ℕ) (starts : List ℕ) (old new : List Cell) → seen < length rows → AreGroups rows seen starts → MapsGroups rows seen starts old → StartsGroup rows seen
+pub map_started : (rows : List Row) → IsSortedByKey surface_of (slice_cmp nat_cmp) rows → (seen : ℕ) (starts : List ℕ) (old new : List Cell) → seen < length rows → AreGroups rows seen starts → MapsGroups rows seen starts old → StartsGroup rows seen
     → IsMapWith old new (surface_at rows seen) (length starts) → MapsGroups rows (seen + 1) (starts ++ seen ∷ []) new
-map_begun rows sorted seen starts old new less groups maps begins with =
+map_started rows sorted seen starts old new less groups maps begins with =
     let long = length_push starts seen in
     let was : (g : ℕ) → g < length starts → get_or (starts ++ seen ∷ []) g (seen + 1) ≡ get_or starts g seen = λ g low. start_kept starts (seen ∷ []) g seen (seen + 1) low in
     let last : get_or (starts ++ seen ∷ []) (length starts) (seen + 1) ≡ seen = get_or_push starts seen (seen + 1) (length starts) refl in

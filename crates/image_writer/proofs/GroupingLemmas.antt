@@ -22,7 +22,7 @@ use Rattle.image_writer.specs.Entries.{surface_at, no_row, lexemes_of}
 use Rattle.image_writer.specs.Groups.{AreGroups, StartsGroup, MapsGroups, AreGrouped, most_cells_of}
 use Rattle.image_writer.specs.declared.groups.Groups.{Groups}
 use Rattle.image_writer.proofs.FeatureLemmas.{sum_once_more, sum_once_rises}
-use Rattle.image_writer.proofs.GroupLemmas.{group_begun, group_goes_on, map_begun, map_goes_on, new_surface, no_groups, no_map, same_or_not}
+use Rattle.image_writer.proofs.GroupLemmas.{group_started, group_goes_on, map_started, map_goes_on, new_surface, no_groups, no_map, same_or_not}
 
 -- ---- the test for a new group
 
@@ -66,9 +66,9 @@ most_rises rows i less =
     let e = ap (λ (texts : List (List ℕ)). sum_by (λ surface. length surface + 600) (each_once texts)) (surfaces_more rows i less) in
     omega (arith, rises, e)
 
-pub most_begun : (rows : List Row) → IsSortedByKey surface_of (slice_cmp nat_cmp) rows → (i : ℕ) → i < length rows → StartsGroup rows i
+pub most_started : (rows : List Row) → IsSortedByKey surface_of (slice_cmp nat_cmp) rows → (i : ℕ) → i < length rows → StartsGroup rows i
     → most_cells_of rows (i + 1) ≡ most_cells_of rows i + (length (surface_at rows i) + 600)
-most_begun rows sorted i less begins =
+most_started rows sorted i less begins =
     let before : List (List ℕ) = take i (map surface_of rows) in
     let e = ap (λ (texts : List (List ℕ)). sum_by (λ surface. length surface + 600) (each_once texts)) (surfaces_more rows i less) in
     let sum = sum_once_more (λ surface. length surface + 600) before (surface_at rows i) in
@@ -99,15 +99,15 @@ most_of_all rows i =
 
 -- ---- one entry more
 
-pub grouped_begun : (rows : List Row) → IsSortedByKey surface_of (slice_cmp nat_cmp) rows → (i : ℕ) (old new : Groups) (surface : List ℕ) → i < length rows → AreGrouped rows i old → StartsGroup rows i
+pub grouped_started : (rows : List Row) → IsSortedByKey surface_of (slice_cmp nat_cmp) rows → (i : ℕ) (old new : Groups) (surface : List ℕ) → i < length rows → AreGrouped rows i old → StartsGroup rows i
     → surface ≡ surface_at rows i → IsMapWith old.array new.array surface (length old.starts.items) → new.starts.items ≡ old.starts.items ++ i ∷ [] → length new.array ≤ length old.array + length surface + 600
     → AreGrouped rows (i + 1) new
-grouped_begun rows sorted i old new surface less grouped begins is with starts growth =
+grouped_started rows sorted i old new surface less grouped begins is with starts growth =
     let with_this = subst (λ (s : List ℕ). IsMapWith old.array new.array s (length old.starts.items)) is with in
     record {
-      are_groups = subst (AreGroups rows (i + 1)) (sym starts) (group_begun rows i old.starts.items grouped.are_groups);
-      map = subst (λ (s : List ℕ). MapsGroups rows (i + 1) s new.array) (sym starts) (map_begun rows sorted i old.starts.items old.array new.array less grouped.are_groups grouped.map begins with_this);
-      most = let m = grouped.most in let e = most_begun rows sorted i less begins in let l = ap length is in omega (arith, m, e, growth, l);
+      are_groups = subst (AreGroups rows (i + 1)) (sym starts) (group_started rows i old.starts.items grouped.are_groups);
+      map = subst (λ (s : List ℕ). MapsGroups rows (i + 1) s new.array) (sym starts) (map_started rows sorted i old.starts.items old.array new.array less grouped.are_groups grouped.map begins with_this);
+      most = let m = grouped.most in let e = most_started rows sorted i less begins in let l = ap length is in omega (arith, m, e, growth, l);
     }
 
 pub grouped_on : (rows : List Row) (i : ℕ) (groups : Groups) → i < length rows → AreGrouped rows i groups → (StartsGroup rows i → ⊥) → AreGrouped rows (i + 1) groups
@@ -123,7 +123,7 @@ pub grouped_full : (rows : List Row) → IsSortedByKey surface_of (slice_cmp nat
     → surface ≡ surface_at rows i → cells_max < length groups.array + length surface + 600 → cells_max < most_cells (lexemes_of rows)
 grouped_full rows sorted i groups surface less grouped begins is full =
     let m = grouped.most in
-    let e = most_begun rows sorted i less begins in
+    let e = most_started rows sorted i less begins in
     let l = ap length is in
     let all = most_of_all rows (i + 1) in
     omega (arith, m, e, l, all, full)

@@ -37,16 +37,16 @@ no_further values cells t v c cs u rules holds h =
     let child = child_of values cells t first.0 rules (step_named cells t c first.0 first.1) in
     let e : pos child.from ≡ negsuc v = sym child.based ∙ holds in absurd (cc)
 
-whole_front : (values : ℕ) (cells : List Cell) (t v u : ℕ) (front back codes : List ℕ) → MeetsRules values cells → base cells t ≡ negsuc v → front ++ back ≡ codes → walk cells 0 front ≡ Some t → walk cells 0 codes ≡ Some u → front ≡ codes
-whole_front values cells t v u front [] codes rules holds is led all = sym (append-nil front) ∙ is
-whole_front values cells t v u front (c ∷ cs) codes rules holds is led all =
+whole_prefix : (values : ℕ) (cells : List Cell) (t v u : ℕ) (front back codes : List ℕ) → MeetsRules values cells → base cells t ≡ negsuc v → front ++ back ≡ codes → walk cells 0 front ≡ Some t → walk cells 0 codes ≡ Some u → front ≡ codes
+whole_prefix values cells t v u front [] codes rules holds is led all = sym (append-nil front) ∙ is
+whole_prefix values cells t v u front (c ∷ cs) codes rules holds is led all =
     absurd (no_further values cells t v c cs u rules holds (sym (walk_append cells 0 front (c ∷ cs) t led) ∙ ap (walk cells 0) is ∙ all))
 
 pub ends_key : (values : ℕ) (cells : List Cell) (t s v : ℕ) → MeetsRules values cells → AreOnKeys cells → check cells t ≡ pos s → base cells t ≡ negsuc v → EndsKey cells t v
 ends_key values cells t s v rules keys named holds =
     let k = keys t s named in
     let p = value_parts cells k.key k.value k.there in
-    let front : k.front ≡ codes_of k.key = whole_front values cells t v p.0 k.front k.back (codes_of k.key) rules holds k.codes k.led p.1.led in
+    let front : k.front ≡ codes_of k.key = whole_prefix values cells t v p.0 k.front k.back (codes_of k.key) rules holds k.codes k.led p.1.led in
     let led : walk cells 0 (codes_of k.key) ≡ Some t = ap (walk cells 0) (sym front) ∙ k.led in
     let here : p.0 ≡ t = same_Some p.0 t (sym p.1.led ∙ led) in
     let same : negsuc k.value ≡ negsuc v = sym p.1.holds ∙ ap (base cells) here ∙ holds in
@@ -100,8 +100,8 @@ module _ (rows : List Row) (seen : ℕ) (starts : List ℕ) (cells : List Cell) 
     | inr u ↦ (u.state, u.named)
   ]
 
-  pub stands_once : (g : ℕ) → g < length starts → OccursOnce cells g
-  stands_once g less =
+  pub appears_once : (g : ℕ) → g < length starts → OccursOnce cells g
+  appears_once g less =
       let key : List ℕ = surface_at rows (get_or starts g seen) in
       let p = value_parts cells key g (maps.there g less) in
       record {
@@ -139,7 +139,7 @@ key_bytes sizes rows each texts groups bytes grouped same fill most formed keys 
     let n : ℕ = length rows in
     let starts : List ℕ = groups.starts.items in
     let rules = group_rules rows n starts groups.array grouped.map formed.0 formed.1 keys in
-    let once = stands_once rows n starts groups.array grouped.map formed.0 formed.1 keys in
+    let once = appears_once rows n starts groups.array grouped.map formed.0 formed.1 keys in
     let key = key_of_group sizes rows each texts starts groups.array grouped.are_groups grouped.map in
     let some : 0 < length groups.array = some_cells formed.0 groups.array formed.1 in
     let index : List ℕ = bytes.index.items in

@@ -20,9 +20,9 @@ abbrev pub joined : List (List Row) → List Row
 joined unknown = flat_map (λ (rows : List Row). rows) unknown
 
 -- a row after others
-pub get_behind : (front rows : List Row) (k : ℕ) → slice_get (front ++ rows) (length front + k) ≡ slice_get rows k
-get_behind [] rows k = let e : 0 + k ≡ k = omega (arith) in ap (slice_get rows) e
-get_behind (row ∷ front) rows k = let e : suc (length front) + k ≡ suc (length front + k) = omega (arith) in ap (slice_get (row ∷ (front ++ rows))) e ∙ get_behind front rows k
+pub get_after : (front rows : List Row) (k : ℕ) → slice_get (front ++ rows) (length front + k) ≡ slice_get rows k
+get_after [] rows k = let e : 0 + k ≡ k = omega (arith) in ap (slice_get rows) e
+get_after (row ∷ front) rows k = let e : suc (length front) + k ≡ suc (length front + k) = omega (arith) in ap (slice_get (row ∷ (front ++ rows))) e ∙ get_after front rows k
 
 -- a row before others
 pub get_before : (rows back : List Row) (k : ℕ) → k < length rows → slice_get (rows ++ back) k ≡ slice_get rows k
@@ -40,7 +40,7 @@ get_joined (rows ∷ unknown) zero k less =
 get_joined (rows ∷ unknown) (suc i) k less =
     let s : sum_by length (take (suc i) (rows ∷ unknown)) ≡ length rows + sum_by length (take i unknown) = sum_by-cons length rows (take i unknown) in
     let e : sum_by length (take (suc i) (rows ∷ unknown)) + k ≡ length rows + (sum_by length (take i unknown) + k) = omega (arith, s) in
-    ap (slice_get (joined (rows ∷ unknown))) e ∙ get_behind rows (joined unknown) (sum_by length (take i unknown) + k) ∙ get_joined unknown i k less
+    ap (slice_get (joined (rows ∷ unknown))) e ∙ get_after rows (joined unknown) (sum_by length (take i unknown) + k) ∙ get_joined unknown i k less
 
 -- the entries of list i have the numbers from those of the lists before it on
 pub tokens_at : (first : ℕ) (unknown : List (List Row)) (i : ℕ)

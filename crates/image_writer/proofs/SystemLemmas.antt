@@ -14,7 +14,7 @@ use Rattle.matrix_def.specs.Costs.{CostTable, matrix_cost}
 use Rattle.image_writer.specs.StoredTables.{AreCostsOf, AreUnknownOf}
 use Rattle.image_writer.specs.Entries.{all_rows}
 use Rattle.image_writer.specs.Sections.{HoldTokens}
-use Rattle.image_writer.proofs.RowLemmas.{get_behind, get_joined, joined, numbered, tokens_at}
+use Rattle.image_writer.proofs.RowLemmas.{get_after, get_joined, joined, numbered, tokens_at}
 
 -- connection costs as functions
 pub same_cost : (m : CostTable) (costs : List ℕ) → AreCostsOf m costs → (right left : ℕ) (b : Bool) → is_pair m.sizes right left ≡ b
@@ -39,7 +39,7 @@ unknown_at rows unknown index tokens features are hold i less =
     let within = slice_get_within here k row is in
     let place : first + k ≡ length rows + (sum_by length (take i unknown) + k) = omega (arith) in
     let there : slice_get (all_rows rows unknown) (first + k) ≡ Some row =
-    ap (slice_get (all_rows rows unknown)) place ∙ get_behind rows (joined unknown) (sum_by length (take i unknown) + k) ∙ get_joined unknown i k within ∙ is in
+    ap (slice_get (all_rows rows unknown)) place ∙ get_after rows (joined unknown) (sum_by length (take i unknown) + k) ∙ get_joined unknown i k within ∙ is in
     (hold.each (first + k) row there).token)
     ∙ sym (tokens_at (length rows) unknown i)
 

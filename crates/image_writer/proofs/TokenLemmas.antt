@@ -14,7 +14,7 @@ use Rattle.mj_model.specs.Lexicon.{Row}
 use Rattle.mj_model.specs.Tables.{Token}
 use Rattle.image_writer.specs.Sections.{IsTokenOf, HoldTokens, HasTextAt}
 use Rattle.image_writer.specs.TokenBytes.{FitsBytes, stored_bytes}
-use Rattle.image_format.proofs.NumberLemmas.{number_kept, number_behind, number_back, range_kept}
+use Rattle.image_format.proofs.NumberLemmas.{number_kept, number_after, number_back, range_kept}
 
 -- ---- one token
 
@@ -47,14 +47,14 @@ token_kept tokens more i within =
     (λ j. record { left = left j; right = right j; cost = cost j; spare = spare j; feature_start = place j; feature_length = long j })
 
 -- a token after others is the first one of its bytes
-token_behind : (tokens more : List ℕ) (i : ℕ) → length tokens ≡ 16 * i → stored_token (tokens ++ more) i ≡ stored_token more 0
-token_behind tokens more i fill =
-    let left = number_behind 2 0 tokens more (16 * i) (omega (arith, fill)) in
-    let right = number_behind 2 2 tokens more (16 * i + 2) (omega (arith, fill)) in
-    let cost = ap (cast_signed w16) (number_behind 2 4 tokens more (16 * i + 4) (omega (arith, fill))) in
-    let spare = number_behind 2 6 tokens more (16 * i + 6) (omega (arith, fill)) in
-    let place = number_behind 4 8 tokens more (16 * i + 8) (omega (arith, fill)) in
-    let long = number_behind 4 12 tokens more (16 * i + 12) (omega (arith, fill)) in
+token_after : (tokens more : List ℕ) (i : ℕ) → length tokens ≡ 16 * i → stored_token (tokens ++ more) i ≡ stored_token more 0
+token_after tokens more i fill =
+    let left = number_after 2 0 tokens more (16 * i) (omega (arith, fill)) in
+    let right = number_after 2 2 tokens more (16 * i + 2) (omega (arith, fill)) in
+    let cost = ap (cast_signed w16) (number_after 2 4 tokens more (16 * i + 4) (omega (arith, fill))) in
+    let spare = number_after 2 6 tokens more (16 * i + 6) (omega (arith, fill)) in
+    let place = number_after 4 8 tokens more (16 * i + 8) (omega (arith, fill)) in
+    let long = number_after 4 12 tokens more (16 * i + 12) (omega (arith, fill)) in
     (λ j. record { left = left j; right = right j; cost = cost j; spare = spare j; feature_start = place j; feature_length = long j })
 
 -- ---- tokens and features
@@ -88,7 +88,7 @@ new_token : (row : Row) (tokens features : List ℕ) (i place : ℕ) → length 
     → IsTokenOf row (tokens ++ stored_bytes (stored_of row place)) features i
 new_token row tokens features i place fill fits is_stored text =
     let t : StoredToken = stored_of row place in
-    let same : stored_token (tokens ++ stored_bytes t) i ≡ t = token_behind tokens (stored_bytes t) i fill ∙ token_back t fits in
+    let same : stored_token (tokens ++ stored_bytes t) i ≡ t = token_after tokens (stored_bytes t) i fill ∙ token_back t fits in
     record {
       token = ap (λ (u : StoredToken). with_number i u (stored_feature features u)) same ∙ ap (with_number i t) is_stored.is;
       spare = ap (λ (u : StoredToken). u.spare) same;

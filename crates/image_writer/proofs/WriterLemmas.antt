@@ -81,5 +81,5 @@ records_around rows records i r rest less at =
     ∙ ap (λ (rs : List Row). rs ++ (following ++ rest)) (sym (records_more rows records i r less at))
 
 -- those up to a row are too large, so all are
-pub front_too_large : (all front rest : List Row) → all ≡ front ++ rest → IsTooLarge front → IsTooLarge all
-front_too_large all front rest is large = subst IsTooLarge (sym is) (still_too_large front rest large)
+pub prefix_too_large : (all front rest : List Row) → all ≡ front ++ rest → IsTooLarge front → IsTooLarge all
+prefix_too_large all front rest is large = subst IsTooLarge (sym is) (still_too_large front rest large)

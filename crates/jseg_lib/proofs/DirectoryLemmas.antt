@@ -42,10 +42,10 @@ last_slash text (suc n) =
 abbrev LacksSlash : List ℕ → Type 0
 LacksSlash text = All (λ byte. byte ≢ slash) text
 
-name_behind : (path : List ℕ) (found : Option ℕ) → IsLastSlash path (length path) found
+name_after : (path : List ℕ) (found : Option ℕ) → IsLastSlash path (length path) found
     → LacksSlash (unwrap_or (option_map (λ (parts : List ℕ × List ℕ). parts.1) (option_map (λ i. (take i path, drop (i + 1) path)) found)) path)
-name_behind path None lacks = All-from_get_or (λ byte. byte ≢ slash) path 0 (λ i low. lacks i (omega arith) low)
-name_behind path (Some k) lacks =
+name_after path None lacks = All-from_get_or (λ byte. byte ≢ slash) path 0 (λ i low. lacks i (omega arith) low)
+name_after path (Some k) lacks =
     All-from_get_or (λ byte. byte ≢ slash) (drop (k + 1) path) 0 (λ i low.
     let long = length-drop (k + 1) path in
     subst (λ byte. byte ≢ slash) (sym (get_or-drop (k + 1) path i 0)) (lacks ((k + 1) + i) (omega arith) (omega (arith, low, long))))
@@ -53,7 +53,7 @@ name_behind path (Some k) lacks =
 -- the file name, which follows the last slash of a path, has no slash
 pub name_lacks_slash : (path : List ℕ) → LacksSlash (unwrap_or (option_map (λ (parts : List ℕ × List ℕ). parts.1) (rsplit_once slash path)) path)
 unfolding rsplit_once
-name_lacks_slash path = name_behind path (rfind_below slash path (length path)) (last_slash path (length path))
+name_lacks_slash path = name_after path (rfind_below slash path (length path)) (last_slash path (length path))
 
 -- a file whose name ends with `.csv` is a lexicon of its directory
 pub ends_lexicon : (dir of_file name again path : List ℕ) (ends : Bool) → LacksSlash of_file → name ≡ of_file → again ≡ of_file

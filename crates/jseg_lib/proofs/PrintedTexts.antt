@@ -17,6 +17,7 @@ use Rattle.jseg_lib.specs.RequestedOutput.{IsPrintedBy, IsPrintedByImages, IsReq
 use Rattle.command_lines.specs.declared.jseg.choices.Input.{Input}
 use Rattle.command_lines.specs.declared.jseg.choices.Options.{Options}
 use Rattle.jseg_lib.specs.declared.formatting.OutputForm.{OutputForm}
+use Rattle.jseg_lib.specs.declared.source_directory.Directory.{Directory}
 
 -- a reader that was read to its end gave all that remained
 whole_text : (remaining from to : Option (List ℕ)) (bytes : List ℕ) → Keeps remaining from → Consumes from to bytes → IsAtEnd to → IfSome remaining (λ known. bytes ≡ known)
@@ -62,11 +63,11 @@ pub by_images : (loads : Bor (List ℕ) → DigestTest → Result (List ℕ) Fau
 by_images loads digest dic paths grouping printed system users remaining before after (Ok lines) of_dic of_users over = (system, users, of_dic, of_users, over)
 by_images loads digest dic paths grouping printed system users remaining before after (Err fault) of_dic of_users over = tt
 
-pub as_requested : (loads : Bor (List ℕ) → DigestTest → Result (List ℕ) Fault → Type 0) (options : Options) (input : Input) (printed : OutputForm)
+pub as_requested : (loads : Bor (List ℕ) → DigestTest → Result (List ℕ) Fault → Type 0) (reads : Bor (List ℕ) → Result Directory Fault → Type 0) (options : Options) (input : Input) (printed : OutputForm)
     (remaining : Option (List ℕ)) (before after : WriterState) (result : Result ℕ Fault)
     → options.input ≡ input → IsRequested (requested_texts options) options.view printed
-    → IfOk result (IsPrintedBy loads input options.grouping printed remaining before after)
-    → IfOk result (IsRequestedOutput loads options remaining before after)
-as_requested loads options input printed remaining before after (Err fault) is requested over = tt
-as_requested loads options input printed remaining before after (Ok lines) is requested over =
-    (printed, requested, subst (λ (i : Input). IsPrintedBy loads i options.grouping printed remaining before after lines) (sym is) over)
+    → IfOk result (IsPrintedBy loads reads input options.grouping printed remaining before after)
+    → IfOk result (IsRequestedOutput loads reads options remaining before after)
+as_requested loads reads options input printed remaining before after (Err fault) is requested over = tt
+as_requested loads reads options input printed remaining before after (Ok lines) is requested over =
+    (printed, requested, subst (λ (i : Input). IsPrintedBy loads reads i options.grouping printed remaining before after lines) (sym is) over)

@@ -1,7 +1,5 @@
 -- The files of a source directory.
-use Rattle.std.specs.Prelude.{◌≡◌, ◌≢◌, ◌⊎◌, ℕ, All, IsSorted, List, ◌++◌, Option, map, string_bytes, codes}
-use Rattle.std.specs.Cmp.Lexicographic.{slice_cmp}
-use Rattle.std.specs.Ordering.{nat_cmp}
+use Rattle.std.specs.Prelude.{◌≡◌, ◌≢◌, ◌⊎◌, ℕ, All, List, ◌++◌, Option, map, string_bytes, codes}
 use Rattle.std.specs.Path.{slash}
 use Rattle.programs.specs.Faults.{Names}
 use Rattle.programs.specs.declared.fault.Fault.{Fault}
@@ -38,14 +36,6 @@ IsReadIn dir path = (path ≡ dir) ⊎ (path ≡ matrix_path dir) ⊎ (path ≡ 
 -- the error names the directory or a source in it, unless it is an allocation failure
 abbrev pub NamesReadIn : List ℕ → Fault → Type 0
 NamesReadIn dir reported = (path : List ℕ) × IsReadIn dir path × Names File path reported
-
--- the files of a source directory: the definitions, and its lexicons in byte order of their paths
-pub record IsDirectory (dir : List ℕ) (read : Directory) : Type 0 where
-  pub matrix : string_bytes read.files.matrix ≡ matrix_path dir
-  pub chars : string_bytes read.files.chars.path ≡ chars_path dir
-  pub unk : string_bytes read.files.unk.path ≡ unk_path dir
-  pub lexicons : All (IsLexiconIn dir) (paths_of read.files.lexicons.items)
-  pub order : IsSorted (slice_cmp nat_cmp) (paths_of read.files.lexicons.items)
 
 -- the sources have the bytes of some opened files; the contract doesn't fix which files
 pub record HasFilesBytes {F : Type 0} (remaining : F → Option (List ℕ)) (read : Directory) : Type 0 where

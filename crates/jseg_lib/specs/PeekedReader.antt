@@ -3,21 +3,21 @@ use Rattle.std.specs.Prelude.{ℕ, ◌≡◌, ◌+◌, ◌-◌, ◌^◌, min, fa
 use Rattle.std.specs.Fmt.{option_append}
 use Rattle.std.specs.Io.Cursor.{cursor_remaining}
 use Rattle.mj_model.specs.Counts.{ReaderState, end_in, failed_read}
-use Rattle.jseg_lib.specs.declared.kept_read.KeptRead.{KeptRead}
+use Rattle.jseg_lib.specs.declared.peeked_read.PeekedRead.{PeekedRead}
 use Rattle.jseg_lib.specs.declared.peeked_reader.PeekedReader.{PeekedReader}
 
 -- ---- the kept result of a read
 
 -- the bytes of the read that are not replayed yet
-abbrev pub bytes_left : KeptRead → Option (List ℕ)
+abbrev pub bytes_left : PeekedRead → Option (List ℕ)
 bytes_left kept = cursor_remaining (λ v. Some v.items) kept.bytes
 
 -- the bytes that remain to be read if `rest` follows what is kept: none if the read found the end
-abbrev pub remaining_with : KeptRead → Option (List ℕ) → Option (List ℕ)
+abbrev pub remaining_with : PeekedRead → Option (List ℕ) → Option (List ℕ)
 remaining_with kept rest = if kept.is_ended then option_map (λ bytes. []) rest else option_append (bytes_left kept) rest
 
 -- nothing is kept, or all of it was replayed
-pub record IsReplayed (kept : KeptRead) : Type 0 where
+pub record IsReplayed (kept : PeekedRead) : Type 0 where
   pub no_fault : kept.failed ≡ None
   pub no_end : kept.is_ended ≡ false
   pub no_bytes : bytes_left kept ≡ Some []
@@ -69,6 +69,12 @@ peeked_state reported started = record {
   ends = sum_of (reported started.reader).ends started.replays.ends;
   failures = sum_of (reported started.reader).failures started.replays.failures;
 }
+
+-- no read was counted yet
+pub record IsUncounted (reported : ReaderState) : Type 0 where
+  pub reads : reported.reads ≡ 0
+  pub ends : reported.ends ≡ 0
+  pub failures : reported.failures ≡ 0
 
 -- one read with this result was made
 pub record IsOneRead {E : Type 0} (before after : ReaderState) (result : Result ℕ E) (room : ℕ) : Type 0 where

@@ -12,7 +12,6 @@ use Rattle.mj_model.specs.Sample.{matrix_text, chars_text, unk_text, lexicon_tex
 use Rattle.mj_model.specs.declared.sources.Sources.{Sources}
 use Rattle.programs.specs.LoadedImages.{AreLoaded, IsLoadResult}
 use Rattle.programs.specs.declared.fault.Fault.{Fault}
-use Rattle.jseg_lib.specs.Directories.{IsDirectory}
 use Rattle.jseg_lib.specs.Formatting.{IsRequested, requested_texts}
 use Rattle.jseg_lib.specs.Printing.{IsPrintedOver, IsPrintedBySources, requested_overlay}
 use Rattle.jseg_lib.specs.declared.formatting.OutputForm.{OutputForm}
@@ -32,10 +31,15 @@ pub record AreSourcesOf (read : Directory) (sources : Sources) : Type 0 where
   pub unk : sources.unk.now ≡ read.files.unk.bytes.items
   pub lexicons : map (λ lexicon. lexicon.now) sources.lexicons.now ≡ map (λ file. file.bytes.items) read.files.lexicons.items
 
--- all of a text was printed with the dictionary compiled from the files of a source directory
-abbrev pub IsPrintedByDirectory : List ℕ → ℕ → OutputForm → Option (List ℕ) → WriterState → WriterState → ℕ → Type 0
-IsPrintedByDirectory dir grouping printed remaining before after lines =
-    (read : Directory) × (sources : Sources) × IsDirectory dir read × AreSourcesOf read sources
+-- reading the source directory `dir` gave this result
+abbrev pub IsReadResult : (Bor (List ℕ) → Result Directory Fault → Type 0) → List ℕ → Result Directory Fault → Type 0
+IsReadResult reads dir result = (shown : Bor (List ℕ)) × (shown.now ≡ dir) × reads shown result
+
+-- all of a text was printed with the dictionary compiled from the files that were read from a
+-- source directory
+abbrev pub IsPrintedByDirectory : (Bor (List ℕ) → Result Directory Fault → Type 0) → List ℕ → ℕ → OutputForm → Option (List ℕ) → WriterState → WriterState → ℕ → Type 0
+IsPrintedByDirectory reads dir grouping printed remaining before after lines =
+    (read : Directory) × (sources : Sources) × IsReadResult reads dir (Ok read) × AreSourcesOf read sources
     × IsPrintedBySources sources grouping printed remaining before after lines
 
 -- the sources of the sample
@@ -51,13 +55,13 @@ IsPrintedBySample grouping printed remaining before after lines =
     (sources : Sources) × AreSample sources × IsPrintedBySources sources grouping printed remaining before after lines
 
 -- all of a text was printed with the requested dictionaries
-abbrev pub IsPrintedBy : (Bor (List ℕ) → DigestTest → Result (List ℕ) Fault → Type 0) → Input → ℕ → OutputForm → Option (List ℕ) → WriterState → WriterState → ℕ → Type 0
-IsPrintedBy loads (input.Images dic users skip_digest) = IsPrintedByImages loads (test_by skip_digest) (string_bytes dic) users.items
-IsPrintedBy loads (input.Sources dir) = IsPrintedByDirectory (string_bytes dir)
-IsPrintedBy loads input.Sample = IsPrintedBySample
+abbrev pub IsPrintedBy : (Bor (List ℕ) → DigestTest → Result (List ℕ) Fault → Type 0) → (Bor (List ℕ) → Result Directory Fault → Type 0) → Input → ℕ → OutputForm → Option (List ℕ) → WriterState → WriterState → ℕ → Type 0
+IsPrintedBy loads reads (input.Images dic users skip_digest) = IsPrintedByImages loads (test_by skip_digest) (string_bytes dic) users.items
+IsPrintedBy loads reads (input.Sources dir) = IsPrintedByDirectory reads (string_bytes dir)
+IsPrintedBy loads reads input.Sample = IsPrintedBySample
 
 -- all of a text was printed as the options request
-abbrev pub IsRequestedOutput : (Bor (List ℕ) → DigestTest → Result (List ℕ) Fault → Type 0) → Options → Option (List ℕ) → WriterState → WriterState → ℕ → Type 0
-IsRequestedOutput loads options remaining before after lines =
+abbrev pub IsRequestedOutput : (Bor (List ℕ) → DigestTest → Result (List ℕ) Fault → Type 0) → (Bor (List ℕ) → Result Directory Fault → Type 0) → Options → Option (List ℕ) → WriterState → WriterState → ℕ → Type 0
+IsRequestedOutput loads reads options remaining before after lines =
     (printed : OutputForm) × IsRequested (requested_texts options) options.view printed
-    × IsPrintedBy loads options.input options.grouping printed remaining before after lines
+    × IsPrintedBy loads reads options.input options.grouping printed remaining before after lines

@@ -1,7 +1,7 @@
 //! The output form that the command line requests.
 
 ghost use Rattle.std.specs.Prelude.{◌≡◌, IfErr, IfOk, None, option_map, string_bytes};
-ghost use Rattle.out_format.specs.Formats.{IsFormatRefusal, ReadsFormat};
+ghost use Rattle.out_format.specs.Formats.{IsFormatError, ReadsFormat};
 ghost use Rattle.jseg_lib.specs.Formatting.{IsRequested, requested_lattice, part_text_of, text_or as text_or_else, requested_texts, requested_view};
 
 use crate::views::View;
@@ -26,7 +26,7 @@ pub enum OutputForm {
 pub fn output_form(alloc: Global, options: &Options) -> Result<OutputForm, FormatFault>
     ensures requested { IfOk result (IsRequested (requested_texts options.now) options.now.view) }
     ensures rejected { IfErr result (λ fault. (options.now.view ≡ None)
-        × IsFormatRefusal (requested_texts options.now) fault) }
+        × IsFormatError (requested_texts options.now) fault) }
 {
     match options.view {
         Some(choice) => Ok(OutputForm::View(view_of(choice))),
@@ -62,7 +62,7 @@ fn lattice_format(choice: LatticeChoice) -> LatticeFormat
 /// weren't given are MeCab's.
 fn format_of(alloc: Global, options: &Options) -> Result<Format, FormatFault>
     ensures accepted { IfOk result (ReadsFormat (requested_texts options.now)) }
-    ensures rejected { IfErr result (IsFormatRefusal (requested_texts options.now)) }
+    ensures rejected { IfErr result (IsFormatError (requested_texts options.now)) }
 {
     if options.output.is_some() {
         return Ok(Format::wakati(alloc)?);

@@ -1,9 +1,12 @@
 //! Segmenting standard input with the images that the command line names.
 
-ghost use Rattle.std.specs.Prelude.{◌≡◌, IfOk, Ok, slice_get};
+ghost use Rattle.std.specs.Prelude.{◌≡◌, ◌<◌, Err, IfErr, IfOk, Ok, length, slice_get};
 ghost use Rattle.mj_model.specs.Counts.{MayBeWritten};
+ghost use Rattle.mj_model.specs.declared.run_fault.RunFault.{RunFault as RunFaultOf};
+ghost use Rattle.mj_model.specs.declared.run_fault.RunFault.TheVariants.{Memory};
 ghost use Rattle.programs.specs.Faults.{Names};
-ghost use Rattle.programs.specs.declared.fault.Fault.TheVariants.{Overlay};
+ghost use Rattle.programs.specs.declared.fault.Fault.TheVariants.{Overlay, Run};
+ghost use Rattle.jseg_lib.specs.PeekedReader.{IsUncounted};
 ghost use Rattle.jseg_lib.specs.Images.{path_at_fault, path_or};
 ghost use Rattle.jseg_lib.specs.Printing.{IsPrintedOver, requested_overlay};
 ghost use Rattle.jseg_lib.specs.RequestedOutput.{IsPrintedByImages};
@@ -14,7 +17,7 @@ use crate::segmenting::SegmentSettings;
 use crate::watched_reader::WatchedReader;
 use dict_image::{Dict, DigestTest};
 use line_stream::new_buffer;
-use mj_model::{Counted, OverlayFault, RunFault, TextOut};
+use mj_model::{Counted, OverlayFault, RunFault, TextIn, TextOut};
 use programs::{Fault, Progress, Stage, dictionaries_at};
 use std::alloc::Global;
 use std::io::Read;
@@ -47,12 +50,15 @@ where
     ensures ok { IfOk result (IsPrintedByImages (L.post load) images.now.digest
         images.now.dic.now images.now.users.now settings.now.grouping settings.now.printed
         (R.remaining text) (W.state writer.old) (W.state writer.new)) }
+    // An allocation failure has line number 0 only if nothing was printed.
+    ensures before_reading { result ≡ Err (Run (Memory 0)) → writer.new ≡ writer.old }
 {
     let mut system = load(images.dic, images.digest)?;
     settings.reporter.log(Stage::Loaded { path: images.dic });
     let overlays = dictionaries_at(rt.alloc(), images.users, images.digest, load)?;
     let progress = Progress::new(rt);
-    let text = WatchedReader::new(rt, text, settings.reporter, &progress);
+    let counted = Counted::new(text);
+    let text = WatchedReader::new(rt, counted, settings.reporter, &progress);
     let result = segment_text(
         rt.alloc(),
         images,
@@ -67,7 +73,7 @@ where
 }
 
 /// Segments `text` with dictionaries and returns the number of lines.
-fn segment_text<R: Read + Drop, W: TextOut>(
+fn segment_text<R: TextIn + Drop, W: TextOut>(
     alloc: Global,
     images: &ImagePaths<'_>,
     system: &mut Dict,
@@ -76,15 +82,44 @@ fn segment_text<R: Read + Drop, W: TextOut>(
     text: R,
     writer: &mut W,
 ) -> Result<u64, Fault>
-    requires { MayBeWritten (W.state writer.old) }
-    ensures { IfOk result (IsPrintedOver settings.now.printed
+    requires reads { IsUncounted (R.state text) }
+    requires writes { MayBeWritten (W.state writer.old) }
+    ensures ok { IfOk result (IsPrintedOver settings.now.printed
         (requested_overlay system.old overlays.now settings.now.grouping) (R.remaining text)
         (W.state writer.old) (W.state writer.new)) }
+    ensures before_reading { result ≡ Err (Run (Memory 0)) → writer.new ≡ writer.old }
 {
-    let Ok(buffer) = new_buffer(alloc) else {
-        return Err(Fault::Run(RunFault::Memory(0)));
-    };
-    let text = Counted::new(text);
+    match new_buffer(alloc) {
+        Ok(buffer) => {
+            segment_with_buffer(
+                alloc, images, system, overlays, buffer, settings, text, writer,
+            )
+        }
+        Err(_) => Err(Fault::Run(RunFault::Memory(0))),
+    }
+}
+
+/// Segments `text` with dictionaries and returns the number of lines. The first read may go to
+/// `buffer`.
+fn segment_with_buffer<R: TextIn + Drop, W: TextOut>(
+    alloc: Global,
+    images: &ImagePaths<'_>,
+    system: &mut Dict,
+    overlays: &[Dict],
+    buffer: Vec<u8>,
+    settings: &SegmentSettings<'_>,
+    text: R,
+    writer: &mut W,
+) -> Result<u64, Fault>
+    requires room { 0 < length buffer.items }
+    requires reads { IsUncounted (R.state text) }
+    requires writes { MayBeWritten (W.state writer.old) }
+    ensures ok { IfOk result (IsPrintedOver settings.now.printed
+        (requested_overlay system.old overlays.now settings.now.grouping) (R.remaining text)
+        (W.state writer.old) (W.state writer.new)) }
+    // The text may have been read, so an allocation failure has the number of a line, from 1 on.
+    ensures after_reading { result ≡ Err (Run (Memory 0)) → ⊥ }
+{
     let mut reader = peek_and_cache_costs(alloc, system, overlays, buffer, text);
     match requested_dictionaries(system, overlays, settings.grouping) {
         Ok(dictionaries) => {
@@ -97,7 +132,9 @@ fn segment_text<R: Read + Drop, W: TextOut>(
 
 /// Returns the number of lines of a run, or its error.
 fn run_result(lines: Result<u64, RunFault>) -> Result<u64, Fault>
-    ensures { IfOk result (λ count. lines ≡ Ok count) }
+    ensures ok { IfOk result (λ count. lines ≡ Ok count) }
+    ensures error { IfErr result (λ reported. (fault : RunFaultOf)
+        × (lines ≡ Err fault) × (reported ≡ Run fault)) }
 {
     match lines {
         Ok(count) => Ok(count),

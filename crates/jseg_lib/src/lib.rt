@@ -16,9 +16,9 @@
 mod formatting;
 mod images;
 mod inputs;
-mod kept_read;
 mod listing;
 mod mark_scan;
+mod peeked_read;
 mod peeked_reader;
 mod peeking;
 mod printing;

@@ -22,17 +22,17 @@ use std::string::String;
 /// byte order of their names.
 pub fn list_images(rt: &HostRuntime, reporter: &Reporter<'_>) -> Result<(), Fault> {
     let image_dirs = Environment::here(rt)?.image_dirs(rt.alloc())?;
-    for home in &image_dirs {
-        list_image_dir(rt, home.as_str(), reporter)?;
+    for dir in &image_dirs {
+        list_image_dir(rt, dir.as_str(), reporter)?;
     }
     Ok(())
 }
 
 /// Prints the rows of one image directory, each as soon as its image is loaded.
-fn list_image_dir(rt: &HostRuntime, home: &str, reporter: &Reporter<'_>) -> Result<(), Fault> {
-    let names = image_names(rt, home)?;
+fn list_image_dir(rt: &HostRuntime, dir: &str, reporter: &Reporter<'_>) -> Result<(), Fault> {
+    let names = image_names(rt, dir)?;
     for name in &names {
-        let path = image_in(rt.alloc(), home, name.as_str())?;
+        let path = image_in(rt.alloc(), dir, name.as_str())?;
         let row = row_of(rt, name.as_str(), path.as_str(), reporter)?;
         write_whole(&mut rt.stdout(), row.as_bytes()).map_err(|_| Fault::Output)?;
     }

@@ -5,7 +5,7 @@ ghost use Rattle.std.specs.Io.KnownBytes.{Keeps};
 ghost use Rattle.mj_model.specs.Counts.{CanRise, MayBeRead, end_in, failed_read};
 ghost use Rattle.jseg_lib.specs.PeekedReader.{CountsSincePeek, IsReplayed, IsUnreplayed, remaining_of, reader_of};
 
-use crate::kept_read::KeptRead;
+use crate::peeked_read::PeekedRead;
 use mj_model::TextIn;
 use std::alloc::Global;
 use std::io::{self, Cursor, Read};
@@ -13,7 +13,7 @@ use std::io::{self, Cursor, Read};
 /// A reader of which one read may have been made. The result of that read is replayed first.
 #[derive(Drop)]
 pub(crate) struct PeekedReader<R> {
-    kept: KeptRead,
+    kept: PeekedRead,
     replays: Replays,
     reader: R,
 }
@@ -29,7 +29,7 @@ struct Replays {
 
 impl<R> PeekedReader<R> {
     /// Creates a reader that replays `kept` and then reads on from `reader`.
-    fn new(kept: KeptRead, reader: R) -> PeekedReader<R>
+    fn new(kept: PeekedRead, reader: R) -> PeekedReader<R>
         ensures kept { result.kept ≡ kept }
         ensures reader { reader_of result ≡ reader }
         ensures replays { IsUnreplayed result }
@@ -51,7 +51,7 @@ impl<R> PeekedReader<R> {
         ensures reader { reader_of result ≡ reader }
         ensures replays { IsUnreplayed result }
     {
-        PeekedReader::new(KeptRead::none(alloc), reader)
+        PeekedReader::new(PeekedRead::none(alloc), reader)
     }
 
     /// Returns the bytes of the first read.
@@ -75,7 +75,7 @@ impl<R: TextIn + Drop> PeekedReader<R> {
         match reader.read_counted(&mut buffer) {
             Ok(count) => {
                 buffer.truncate(count);
-                let kept = KeptRead {
+                let kept = PeekedRead {
                     failed: None,
                     is_ended: count == 0,
                     bytes: Cursor::new(buffer),
@@ -84,7 +84,7 @@ impl<R: TextIn + Drop> PeekedReader<R> {
             }
             Err(fault) => {
                 buffer.clear();
-                let kept = KeptRead {
+                let kept = PeekedRead {
                     failed: Some(fault),
                     is_ended: false,
                     bytes: Cursor::new(buffer),

@@ -1,7 +1,9 @@
 //! Segmenting standard input with the dictionary that the command line names.
 
-ghost use Rattle.std.specs.Prelude.{IfOk};
+ghost use Rattle.std.specs.Prelude.{◌≡◌, Err, IfOk};
 ghost use Rattle.mj_model.specs.Counts.{MayBeWritten};
+ghost use Rattle.mj_model.specs.declared.run_fault.RunFault.TheVariants.{Memory};
+ghost use Rattle.programs.specs.declared.fault.Fault.TheVariants.{Run};
 ghost use Rattle.jseg_lib.specs.Printing.{IsPrintedBySources};
 ghost use Rattle.jseg_lib.specs.RequestedOutput.{IsPrintedByDirectory, IsPrintedBySample, IsRequestedOutput};
 
@@ -31,8 +33,9 @@ pub struct SegmentSettings<'a> {
 pub fn segment_input(rt: &HostRuntime, options: &Options) -> Result<(), Fault> {
     let reporter = Reporter::new(rt, "jseg", options.verbose);
     let load = |path: &str, digest: DigestTest| load_dictionary(rt, path, digest);
+    let read = |dir: &str| read_directory(rt, dir);
     let mut writer = Counted::new(rt.stdout());
-    let lines = segment_lines(rt, options, reporter, load, rt.reader(), &mut writer);
+    let lines = segment_lines(rt, options, reporter, load, read, rt.reader(), &mut writer);
     match &lines {
         Ok(lines) => reporter.log(Stage::Segment { lines: *lines }),
         Err(fault) => {
@@ -53,23 +56,28 @@ fn log_cause(reporter: &Reporter<'_>, options: &Options, fault: &Fault) {
     }
 }
 
-/// Segments `text` as the options request, with dictionaries that `load` loads, and returns the
-/// number of lines.
-fn segment_lines<L, R: Read + Drop, W: TextOut>(
+/// Segments `text` as the options request, with dictionaries that `load` loads or with a source
+/// directory that `read` reads, and returns the number of lines.
+fn segment_lines<L, D, R: Read + Drop, W: TextOut>(
     rt: &HostRuntime,
     options: &Options,
     reporter: Reporter<'_>,
     load: L,
+    read: D,
     text: R,
     writer: &mut W,
 ) -> Result<u64, Fault>
 where
     L: Fn(&str, DigestTest) -> Result<Dict, Fault> + Drop,
+    D: Fn(&str) -> Result<Directory, Fault> + Drop,
     requires load { L.IsAlwaysCallable load }
+    requires read { D.IsAlwaysCallable read }
     requires counts { MayBeWritten (W.state writer.old) }
     // If the result is Ok, all of the text was printed as the options request.
-    ensures ok { IfOk result (IsRequestedOutput (L.post load) options.now (R.remaining text)
-        (W.state writer.old) (W.state writer.new)) }
+    ensures ok { IfOk result (IsRequestedOutput (L.post load) (D.post read) options.now
+        (R.remaining text) (W.state writer.old) (W.state writer.new)) }
+    // An allocation failure has line number 0 only if nothing was printed.
+    ensures before_reading { result ≡ Err (Run (Memory 0)) → writer.new ≡ writer.old }
 {
     let printed = match output_form(rt.alloc(), options) {
         Ok(printed) => printed,
@@ -93,24 +101,31 @@ where
             };
             segment_by_images(rt, &images, load, &settings, text, writer)
         }
-        Input::Sources(dir) => segment_by_directory(rt, &settings, dir.as_str(), text, writer),
+        Input::Sources(dir) => {
+            segment_by_directory(rt, &settings, dir.as_str(), read, text, writer)
+        }
         Input::Sample => segment_by_sample(rt, &settings, text, writer),
     }
 }
 
-/// Segments `text` with the dictionary compiled from the source directory `dir`.
-fn segment_by_directory<R: Read + Drop, W: TextOut>(
+/// Segments `text` with the dictionary compiled from the source directory `dir`, which `read` reads.
+fn segment_by_directory<D, R: Read + Drop, W: TextOut>(
     rt: &HostRuntime,
     settings: &SegmentSettings<'_>,
     dir: &str,
+    read: D,
     text: R,
     writer: &mut W,
 ) -> Result<u64, Fault>
-    requires { MayBeWritten (W.state writer.old) }
-    ensures { IfOk result (IsPrintedByDirectory dir.now settings.now.grouping settings.now.printed
-        (R.remaining text) (W.state writer.old) (W.state writer.new)) }
+where
+    D: Fn(&str) -> Result<Directory, Fault> + Drop,
+    requires read { D.IsAlwaysCallable read }
+    requires counts { MayBeWritten (W.state writer.old) }
+    ensures ok { IfOk result (IsPrintedByDirectory (D.post read) dir.now settings.now.grouping
+        settings.now.printed (R.remaining text) (W.state writer.old) (W.state writer.new)) }
+    ensures before_reading { result ≡ Err (Run (Memory 0)) → writer.new ≡ writer.old }
 {
-    let Directory { matrix, files } = read_directory(rt, dir)?;
+    let Directory { matrix, files } = read(dir)?;
     files.log(&settings.reporter, matrix.len(), &matrix);
     let lexicons = texts(rt.alloc(), &files.lexicons)?;
     let sources = Sources {
@@ -136,8 +151,9 @@ fn segment_by_sample<R: Read + Drop, W: TextOut>(
     writer: &mut W,
 ) -> Result<u64, Fault>
     requires { MayBeWritten (W.state writer.old) }
-    ensures { IfOk result (IsPrintedBySample settings.now.grouping settings.now.printed
+    ensures ok { IfOk result (IsPrintedBySample settings.now.grouping settings.now.printed
         (R.remaining text) (W.state writer.old) (W.state writer.new)) }
+    ensures before_reading { result ≡ Err (Run (Memory 0)) → writer.new ≡ writer.old }
 {
     match segment_by_sources(rt, &sample(), settings, text, writer) {
         Ok(lines) => Ok(lines),
@@ -158,17 +174,19 @@ fn segment_by_sources<R: Read + Drop, W: TextOut>(
     writer: &mut W,
 ) -> Result<u64, RunFault>
     requires { MayBeWritten (W.state writer.old) }
-    ensures { IfOk result (IsPrintedBySources sources.now settings.now.grouping
+    ensures ok { IfOk result (IsPrintedBySources sources.now settings.now.grouping
         settings.now.printed (R.remaining text) (W.state writer.old) (W.state writer.new)) }
+    ensures before_reading { result ≡ Err (Memory 0) → writer.new ≡ writer.old }
 {
     let progress = Progress::new(rt);
-    let text = WatchedReader::new(rt, text, settings.reporter, &progress);
+    let counted = Counted::new(text);
+    let mut text = WatchedReader::new(rt, counted, settings.reporter, &progress);
     let result = segment_over_sources(
         rt.alloc(),
         sources,
         settings.grouping,
         &settings.printed,
-        &mut Counted::new(text),
+        &mut text,
         writer,
     );
     progress.erase();

@@ -16,7 +16,7 @@ use Rattle.mj_model.proofs.PlaceWords.{in_words}
 use Rattle.word_lookup.specs.declared.dictionaries.Dictionaries.{Dictionaries}
 use Rattle.word_lookup.specs.Overlays.{overlay_of}
 use Rattle.word_lookup.proofs.DictionaryLaws.{has_words, searchable}
-use Rattle.word_lookup.proofs.PlaceLemmas.{place_behind_blanks}
+use Rattle.word_lookup.proofs.PlaceLemmas.{place_after_blanks}
 use Rattle.viterbi.specs.declared.nodes.lattice_node.LatticeNode.{LatticeNode}
 use Rattle.viterbi.specs.Nodes.LatticeNodes.{AreWordsOfLattice, IsReached}
 use Rattle.lattice.specs.TextOver.{SurfaceLiesIn, text_over}
@@ -29,8 +29,8 @@ chain_ends o text stays [] p h = subst (Places text) (sym h) stays.begins
 chain_ends o text stays (w ∷ ws) p h = subst (Places text) h.0 (stays.word_ends_there w.place w h.1)
 
 -- a word of a valid position lies in the text
-word_stands : (o : Overlay) (text : List ℕ) (p : ℕ) (w : Word) → HasWords o → StaysOnPlaces (Places text) (words o text) → Places text p → Contains (words o text p) w → SurfaceLiesIn text w
-word_stands o text p w has stays place here =
+word_appears : (o : Overlay) (text : List ℕ) (p : ℕ) (w : Word) → HasWords o → StaysOnPlaces (Places text) (words o text) → Places text p → Contains (words o text p) w → SurfaceLiesIn text w
+word_appears o text p w has stays place here =
     let a = in_words o text p w has here in
     let start = a.start_is in
     let longer = a.longer in
@@ -38,29 +38,29 @@ word_stands o text p w has stays place here =
     record {
       forward = omega (arith, longer);
       within = within;
-      begins = place_behind_blanks o text p w.start place start (omega (arith, longer, within));
+      begins = place_after_blanks o text p w.start place start (omega (arith, longer, within));
       ends = stays.word_ends_there p w here;
     }
 
-reached_stands : (d : Dictionaries) (text : List ℕ) (w : Word) → IsUtf8 text → length text ≤ SENTENCE_MAX → IsReached (words (overlay_of d) text) w → SurfaceLiesIn text w
-reached_stands d text w utf8 short reached =
+reached_appears : (d : Dictionaries) (text : List ℕ) (w : Word) → IsUtf8 text → length text ≤ SENTENCE_MAX → IsReached (words (overlay_of d) text) w → SurfaceLiesIn text w
+reached_appears d text w utf8 short reached =
     let o = overlay_of d in
     let stays = (searchable d text utf8 short).places in
     let chain = reached.1 in
-    word_stands o text w.place w (has_words d) stays (chain_ends o text stays reached.0 w.place chain.2) chain.1
+    word_appears o text w.place w (has_words d) stays (chain_ends o text stays reached.0 w.place chain.2) chain.1
 
-chain_stands : (o : Overlay) (text : List ℕ) → HasWords o → StaysOnPlaces (Places text) (words o text) → (ws : List Word) (p to i : ℕ) (w : Word) → Places text p → IsChain (words o text) p ws to → slice_get ws i ≡ Some w → SurfaceLiesIn text w
-chain_stands o text has stays [] p to i w place chain at = absurd (cc)
-chain_stands o text has stays (v ∷ vs) p to zero w place chain at = subst (SurfaceLiesIn text) (same_Some v w at) (word_stands o text p v has stays place chain.0)
-chain_stands o text has stays (v ∷ vs) p to (suc i) w place chain at = chain_stands o text has stays vs v.end to i w (stays.word_ends_there p v chain.0) chain.1 at
+chain_appears : (o : Overlay) (text : List ℕ) → HasWords o → StaysOnPlaces (Places text) (words o text) → (ws : List Word) (p to i : ℕ) (w : Word) → Places text p → IsChain (words o text) p ws to → slice_get ws i ≡ Some w → SurfaceLiesIn text w
+chain_appears o text has stays [] p to i w place chain at = absurd (cc)
+chain_appears o text has stays (v ∷ vs) p to zero w place chain at = subst (SurfaceLiesIn text) (same_Some v w at) (word_appears o text p v has stays place chain.0)
+chain_appears o text has stays (v ∷ vs) p to (suc i) w place chain at = chain_appears o text has stays vs v.end to i w (stays.word_ends_there p v chain.0) chain.1 at
 
 -- the words of a path lie in the text
-pub path_stands : (d : Dictionaries) (text : List ℕ) (path : List Word) (to i : ℕ) (w : Word) → IsUtf8 text → length text ≤ SENTENCE_MAX → IsPath (words (overlay_of d) text) path to → slice_get path i ≡ Some w → SurfaceLiesIn text w
-path_stands d text path to i w utf8 short is at =
+pub path_appears : (d : Dictionaries) (text : List ℕ) (path : List Word) (to i : ℕ) (w : Word) → IsUtf8 text → length text ≤ SENTENCE_MAX → IsPath (words (overlay_of d) text) path to → slice_get path i ≡ Some w → SurfaceLiesIn text w
+path_appears d text path to i w utf8 short is at =
     let stays = (searchable d text utf8 short).places in
-    chain_stands (overlay_of d) text (has_words d) stays path 0 to i w stays.begins is.chain at
+    chain_appears (overlay_of d) text (has_words d) stays path 0 to i w stays.begins is.chain at
 
-pub node_stands : (d : Dictionaries) (text : List ℕ) (nodes : List LatticeNode) → IsUtf8 text → length text ≤ SENTENCE_MAX → AreWordsOfLattice (text_over (overlay_of d) text) nodes
+pub node_appears : (d : Dictionaries) (text : List ℕ) (nodes : List LatticeNode) → IsUtf8 text → length text ≤ SENTENCE_MAX → AreWordsOfLattice (text_over (overlay_of d) text) nodes
     → (i : ℕ) (n : LatticeNode) → slice_get nodes i ≡ Some n → SurfaceLiesIn text n.word
-node_stands d text nodes utf8 short are i n at =
-    let word = λ (m : LatticeNode). m.word in reached_stands d text n.word utf8 short (are.each i n.word (slice_get-map word nodes i ∙ ap (option_map word) at))
+node_appears d text nodes utf8 short are i n at =
+    let word = λ (m : LatticeNode). m.word in reached_appears d text n.word utf8 short (are.each i n.word (slice_get-map word nodes i ∙ ap (option_map word) at))

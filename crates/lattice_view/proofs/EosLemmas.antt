@@ -37,9 +37,9 @@ right_of_none (u ∷ ws) none =
 
 -- ---- EOS may follow it
 
-eos_behind : (Pair : ℕ → ℕ → Type 0) (words_at : ℕ → List Word) → MayFollow Pair words_at 0 → (us : List Word) (to : ℕ) → IsChainTo words_at us to → Pair (last_right us) 0
-eos_behind Pair words_at may [] to chain = may.after_bos
-eos_behind Pair words_at may (u ∷ us) to chain = may.after_word u.place u chain.1
+eos_after : (Pair : ℕ → ℕ → Type 0) (words_at : ℕ → List Word) → MayFollow Pair words_at 0 → (us : List Word) (to : ℕ) → IsChainTo words_at us to → Pair (last_right us) 0
+eos_after Pair words_at may [] to chain = may.after_bos
+eos_after Pair words_at may (u ∷ us) to chain = may.after_word u.place u chain.1
 
 pub eos_may_follow : (l : ExplainedLine) (right : ℕ) → IsExplained l → right ≡ last_right (reverse (best_of_line l)) → IsTrue (is_pair (overlay_of_line l).system.sizes right 0)
 eos_may_follow l right cut is =
@@ -47,4 +47,4 @@ eos_may_follow l right cut is =
     let s = searchable l.dictionaries.now l.text.now cut.good.1 cut.good.0 in
     let back = chain_reversed (words o l.text.now) o.system.connection (length l.text.now) s.source.are (best_of_line l) cut.best.to cut.best.path.chain in
     subst (λ (r : ℕ). IsTrue (is_pair o.system.sizes r 0)) (sym is)
-    (eos_behind (λ right left. IsTrue (is_pair o.system.sizes right left)) (words o l.text.now) s.eos_follows (reverse (best_of_line l)) cut.best.to back)
+    (eos_after (λ right left. IsTrue (is_pair o.system.sizes right left)) (words o l.text.now) s.eos_follows (reverse (best_of_line l)) cut.best.to back)

@@ -7,7 +7,7 @@ use Rattle.std.proofs.lemmas.Option.{same_Some, slice_get-get_or, slice_get-map}
 use Rattle.mj_model.specs.declared.word.Word.{Word}
 use Rattle.mj_model.specs.Words.{words}
 use Rattle.word_lookup.proofs.DictionaryLaws.{searchable}
-use Rattle.lattice.proofs.NodeWords.{path_stands}
+use Rattle.lattice.proofs.NodeWords.{path_appears}
 use Rattle.viterbi.proofs.Lists.{get_first, get_second}
 use Rattle.lattice_view.specs.LatticePrinter.NodesInLine.{IsLow}
 use Rattle.lattice_view.proofs.PrintableNodes.{best_is_low, low_path}
@@ -37,7 +37,7 @@ step_there l steps i none are within = ap (λ (ss : List PathStep). slice_get ss
 
 pub step_in_line : (l : ExplainedLine) → IsExplained l → AreInLine l (steps_of_line l)
 step_in_line l cut i s at =
-    path_stands l.dictionaries.now l.text.now (best_of_line l) cut.best.to i s.word cut.good.1 cut.good.0 cut.best.path
+    path_appears l.dictionaries.now l.text.now (best_of_line l) cut.best.to i s.word cut.good.1 cut.good.0 cut.best.path
     (word_of_step (overlay_of_line l).system.connection (best_of_line l) i s at)
 
 -- ---- rivals
@@ -54,7 +54,7 @@ rival_printable l w (Some r) cut is =
     record {
       steps = λ i t at.
           let among : slice_get shown i ≡ Some t.word = slice_get-map (λ (x : PathStep). x.word) r.steps.items i ∙ ap (option_map (λ (x : PathStep). x.word)) at in
-          path_stands d l.text.now path is.to (length is.front + i) t.word cut.good.1 cut.good.0 is.is_path (get_second is.front (shown ++ is.back) i t.word (get_first shown is.back i t.word among));
+          path_appears d l.text.now path is.to (length is.front + i) t.word cut.good.1 cut.good.0 is.is_path (get_second is.front (shown ++ is.back) i t.word (get_first shown is.back i t.word among));
       cost_low = subst IsLow (sym is.cost_is) (low_path (words o l.text.now) o.system.connection (length l.text.now) s.source path is.to s.short is.is_path.chain);
     }
 

@@ -92,8 +92,8 @@ module _ (t : SearchedText) where
 
 -- ---- marks
 
-marks_behind : (n : LatticeNode) (nodes : List LatticeNode) (path : List Word) (b : Bool) (bs : List Bool) → AreOnPath (n ∷ nodes) path (b ∷ bs) → AreOnPath nodes path bs
-marks_behind n nodes path b bs are = record { long = (let e = are.long in omega (arith, e)); each = λ i. are.each (suc i) }
+marks_after : (n : LatticeNode) (nodes : List LatticeNode) (path : List Word) (b : Bool) (bs : List Bool) → AreOnPath (n ∷ nodes) path (b ∷ bs) → AreOnPath nodes path bs
+marks_after n nodes path b bs are = record { long = (let e = are.long in omega (arith, e)); each = λ i. are.each (suc i) }
 
 pub one_marks : (nodes : List LatticeNode) (path : List Word) (xs ys : List Bool) → AreOnPath nodes path xs → AreOnPath nodes path ys → xs ≡ ys
 one_marks [] path [] [] h k = refl
@@ -103,5 +103,5 @@ one_marks (n ∷ nodes) path [] ys h k = let e = h.long in absurd (omega (arith,
 one_marks (n ∷ nodes) path (x ∷ xs) [] h k = let e = k.long in absurd (omega (arith, e))
 one_marks (n ∷ nodes) path (x ∷ xs) (y ∷ ys) h k =
     let first : x ≡ y = one_mark y x (k.each 0 n y refl refl) (h.each 0 n x refl refl) in
-    let more : xs ≡ ys = one_marks nodes path xs ys (marks_behind n nodes path x xs h) (marks_behind n nodes path y ys k) in
+    let more : xs ≡ ys = one_marks nodes path xs ys (marks_after n nodes path x xs h) (marks_after n nodes path y ys k) in
     λ i. first i ∷ more i

@@ -27,7 +27,7 @@ use Rattle.viterbi.specs.Nodes.LatticeNodes.{CostsThrough, HasLeastThrough}
 use Rattle.viterbi.specs.Nodes.Least.{IsLeastOf}
 use Rattle.lattice.specs.TextOver.{AreNodesOver, IsMarkedOver, text_over}
 use Rattle.lattice.specs.declared.marking.MarkedLattice.{MarkedLattice}
-use Rattle.lattice.proofs.NodeWords.{node_stands}
+use Rattle.lattice.proofs.NodeWords.{node_appears}
 use Rattle.lattice_view.specs.LatticePrinter.LatticesOfLines.{ArePrintable, overlay_of_lattice}
 use Rattle.lattice_view.specs.LatticePrinter.MarkedNodes.{lost}
 use Rattle.lattice_view.specs.LatticePrinter.NodesInLine.{IsLow, IsLowIfSome, LiesInLine}
@@ -74,13 +74,13 @@ best_is_low d text best total utf8 short is e =
     let s = searchable d text utf8 short in
     subst IsLow (sym e) (low_path (words (overlay_of d) text) (overlay_of d).system.connection (length text) s.source best is.to s.short is.path.chain)
 
-nodes_stand : (d : Dictionaries) (text : List ℕ) (nodes : List LatticeNode) → IsUtf8 text → length text ≤ SENTENCE_MAX → AreNodesOver (overlay_of d) text nodes → (i : ℕ) (n : LatticeNode) → slice_get nodes i ≡ Some n → LiesInLine text n
-nodes_stand d text nodes utf8 short are i n at =
+nodes_appear : (d : Dictionaries) (text : List ℕ) (nodes : List LatticeNode) → IsUtf8 text → length text ≤ SENTENCE_MAX → AreNodesOver (overlay_of d) text nodes → (i : ℕ) (n : LatticeNode) → slice_get nodes i ≡ Some n → LiesInLine text n
+nodes_appear d text nodes utf8 short are i n at =
     let s = searchable d text utf8 short in
     let t = text_over (overlay_of d) text in
     let least : HasLeastThrough t n = subst (HasLeastThrough t) (get_or_from_slice_get nodes i n n at) (are.through i n (slice_get_within nodes i n at)) in
     record {
-      word = node_stands d text nodes utf8 short are.words i n at;
+      word = node_appears d text nodes utf8 short are.words i n at;
       through_low = low_through (words (overlay_of d) text) (overlay_of d).system.connection (length text) s.source n.word n.through s.short least;
     }
 
@@ -89,7 +89,7 @@ pub are_printable : (l : LineLattice) (best given : List Word) (lattice : Marked
     → IsBestPathOver (overlay_of_lattice l) l.text.now best → total ≡ cost_over (overlay_of_lattice l) best → l.best ≡ total
     → IsMarkedOver (overlay_of_lattice l) l.text.now given lattice → l.nodes.now ≡ lattice.nodes.items → l.on_best.now ≡ lattice.on_best.items → ArePrintable l
 are_printable l best given lattice total utf8 short is total_is best_is marked nodes_are marks_are = record {
-  each = λ i n at. nodes_stand l.dictionaries.now l.text.now lattice.nodes.items utf8 short marked.nodes i n (ap (λ (ns : List LatticeNode). slice_get ns i) (sym nodes_are) ∙ at);
+  each = λ i n at. nodes_appear l.dictionaries.now l.text.now lattice.nodes.items utf8 short marked.nodes i n (ap (λ (ns : List LatticeNode). slice_get ns i) (sym nodes_are) ∙ at);
   best_low = best_is_low l.dictionaries.now l.text.now best l.best utf8 short is (best_is ∙ total_is);
   marks = ap length marks_are ∙ marked.on_best.long ∙ ap length (sym nodes_are);
 }

@@ -9,7 +9,7 @@ use Rattle.mj_model.specs.declared.source_fault.SourceKind.TheVariants.{Memory}
 use Rattle.mj_model.specs.Lines.{numbered_lines}
 use Rattle.mj_model.specs.Lexicon.{Row, row_of, rows_of, lexicon_outcome, IsLexicon}
 use Rattle.lex_source.specs.Steps.{IsReadLine, IsRejectedLine, IsReadUpTo, HasRead}
-use Rattle.lex_source.proofs.LexiconLemmas.{read_none, skipped_below, line_taken, line_refused, all_read}
+use Rattle.lex_source.proofs.LexiconLemmas.{read_none, skipped_below, line_taken, line_rejected, all_read}
 
 pub started : (old : List Record) (bytes : List ℕ) (left : List (ℕ × List ℕ)) → left ≡ numbered_lines bytes → HasRead old old (numbered_lines bytes) left 0
 started old bytes left is = record {
@@ -40,7 +40,7 @@ pub rejected : (old now : List Record) (bytes : List ℕ) (left lines : List (�
     → (kind ≡ Memory) ⊎ IsLexicon file (length old) bytes (Err (record { file = file; line = number; kind = kind }))
 rejected old now bytes left lines file number line skipped kind r is (inl memory) = inl memory
 rejected old now bytes left lines file number line skipped kind r is (inr cause) =
-    inr (line_refused lexicon_outcome file (length old) bytes number line left lines (rows_of r.more) skipped (length now) kind is r.read (room old now r.more r.appended) cause)
+    inr (line_rejected lexicon_outcome file (length old) bytes number line left lines (rows_of r.more) skipped (length now) kind is r.read (room old now r.more r.appended) cause)
 
 pub finished : (old now : List Record) (bytes : List ℕ) (lines : List (ℕ × List ℕ)) (file skipped : ℕ) → HasRead old now (numbered_lines bytes) lines skipped → lines ≡ []
     → (rows : List Row) × IsLexicon file (length old) bytes (Ok (record { rows = rows; skipped = skipped })) × (rows_of now ≡ rows_of old ++ rows)

@@ -15,7 +15,7 @@ use Rattle.mj_model.specs.declared.source_fault.SourceFault.{SourceFault}
 use Rattle.mj_model.specs.declared.source_fault.SourceKind.TheVariants.{SurfaceTooLong, IdOutside}
 use Rattle.mj_model.specs.Connection.{is_pair}
 use Rattle.mj_model.specs.Dictionary.{IsInOrder, first_outside}
-use Rattle.mj_model.specs.Lexicon.{Row, Parts, Skipped, Refused, Accepted, Reading, IsLexicon, accept_short, lexicon_outcome, row_from, row_of, rows_of}
+use Rattle.mj_model.specs.Lexicon.{Row, Parts, Skipped, Rejected, Accepted, Reading, IsLexicon, accept_short, lexicon_outcome, row_from, row_of, rows_of}
 use Rattle.mj_model.specs.Numbers.{context_id, cost}
 use Rattle.mj_model.proofs.AcceptedRows.{IsRowOf, OnAccepted, OnRow, row_is, rows_read}
 use Rattle.lex_source.specs.AddedLexicon.{AddsLexicon}
@@ -103,7 +103,7 @@ some_by line parts (Some left) None price h = tt
 some_by line parts (Some left) (Some right) None h = tt
 some_by line parts (Some left) (Some right) (Some z) h = h
 
-short_by : (line : ℕ) (b : Bool) (row : Row) → nat_le (length row.surface) SURFACE_MAX ≡ b → (row.line ≡ line) × HasSome row → OnAccepted (FitsLine line) (cond b (Accepted row) (Refused SurfaceTooLong))
+short_by : (line : ℕ) (b : Bool) (row : Row) → nat_le (length row.surface) SURFACE_MAX ≡ b → (row.line ≡ line) × HasSome row → OnAccepted (FitsLine line) (cond b (Accepted row) (Rejected SurfaceTooLong))
 short_by line true row e h = (h.0, (h.1, leb-true (length row.surface) SURFACE_MAX e))
 short_by line false row e h = tt
 
@@ -119,8 +119,8 @@ skipped_by line parts true e = tt
 skipped_by line parts false e = short_fits line (row_from line parts) (both_of line (row_from line parts) (row_is line parts)
     (some_by line parts (context_id parts.left) (context_id parts.right) (cost parts.cost) (one_of (length parts.surface) e)))
 
-judged_fits : (line : ℕ) (parts : Parts) → OnAccepted (FitsLine line) (lexicon_outcome line parts)
-judged_fits line parts = skipped_by line parts (nat_eq (length parts.surface) 0) refl
+tested_fits : (line : ℕ) (parts : Parts) → OnAccepted (FitsLine line) (lexicon_outcome line parts)
+tested_fits line parts = skipped_by line parts (nat_eq (length parts.surface) 0) refl
 
 -- ---- accepted lines whose ids lie within the sizes
 
@@ -137,7 +137,7 @@ fitting_rows file sizes (row ∷ rows) e h =
 -- the entries with one more lexicon
 with_lexicon : (file : ℕ) (bytes : List ℕ) (old new : LexiconRows) (skipped : ℕ) → AreLexiconRows old → AddsLexicon file bytes old new skipped → AreLexiconRows new
 with_lexicon file bytes old new skipped h a =
-    let r = rows_read lexicon_outcome HasSurface judged_fits file (length old.rows) bytes a.lines a.reads in
+    let r = rows_read lexicon_outcome HasSurface tested_fits file (length old.rows) bytes a.lines a.reads in
     let few = r.few h.few in
     let total = length-append old.rows a.lines.rows in
     let all : AreLexiconRows (record { sizes = old.sizes; rows = old.rows ++ a.lines.rows }) = record {

@@ -15,51 +15,51 @@ use Rattle.mj_model.specs.declared.source_fault.SourceKind.{SourceKind}
 use Rattle.mj_model.specs.declared.source_fault.SourceKind.TheVariants.{NotUtf8, TooFewFields, TooManyEntries}
 use Rattle.mj_model.specs.Lines.{is_blank_line, numbered_lines, source_lines}
 use Rattle.mj_model.specs.Fields.{AreFields, without_leading_blanks}
-use Rattle.mj_model.specs.Lexicon.{Row, Parts, Outcome, Blank, Skipped, Refused, Accepted, IsOutcome, is_blank, not_text, too_few, has_parts, AreOutcomes, first_rejected, accepted_row, accepted_rows, is_skipped, reading_unless, ReadsAs, Reading}
+use Rattle.mj_model.specs.Lexicon.{Row, Parts, Outcome, Blank, Skipped, Rejected, Accepted, IsOutcome, is_blank, not_text, too_few, has_parts, AreOutcomes, first_rejected, accepted_row, accepted_rows, is_skipped, reading_unless, ReadsAs, Reading}
 use Rattle.mj_model.proofs.FieldLemmas.{a_field}
 use Rattle.lex_source.specs.Steps.{IsReadLine, IsRejectedLine, IsReadUpTo}
 use Rattle.lex_source.proofs.FieldsLemmas.{fields_from}
 
 -- ---- each line has an outcome
 
-of_fields : (judge : ℕ → Parts → Outcome) (number : ℕ) (line : List ℕ) (fields : List (List ℕ)) → is_blank_line line ≡ false → IsUtf8 line → AreFields line fields → (o : Outcome) × IsOutcome judge number line o
-of_fields judge number line [] some utf8 are = absurd are
-of_fields judge number line (a ∷ []) some utf8 are = (Refused TooFewFields, too_few some utf8 (a ∷ []) are (omega arith))
-of_fields judge number line (a ∷ b ∷ []) some utf8 are = (Refused TooFewFields, too_few some utf8 (a ∷ b ∷ []) are (omega arith))
-of_fields judge number line (a ∷ b ∷ c ∷ []) some utf8 are = (Refused TooFewFields, too_few some utf8 (a ∷ b ∷ c ∷ []) are (omega arith))
-of_fields judge number line (a ∷ b ∷ c ∷ d ∷ []) some utf8 are = (Refused TooFewFields, too_few some utf8 (a ∷ b ∷ c ∷ d ∷ []) are (omega arith))
-of_fields judge number line (a ∷ b ∷ c ∷ d ∷ e ∷ more) some utf8 are =
+of_fields : (outcome_from : ℕ → Parts → Outcome) (number : ℕ) (line : List ℕ) (fields : List (List ℕ)) → is_blank_line line ≡ false → IsUtf8 line → AreFields line fields → (o : Outcome) × IsOutcome outcome_from number line o
+of_fields outcome_from number line [] some utf8 are = absurd are
+of_fields outcome_from number line (a ∷ []) some utf8 are = (Rejected TooFewFields, too_few some utf8 (a ∷ []) are (omega arith))
+of_fields outcome_from number line (a ∷ b ∷ []) some utf8 are = (Rejected TooFewFields, too_few some utf8 (a ∷ b ∷ []) are (omega arith))
+of_fields outcome_from number line (a ∷ b ∷ c ∷ []) some utf8 are = (Rejected TooFewFields, too_few some utf8 (a ∷ b ∷ c ∷ []) are (omega arith))
+of_fields outcome_from number line (a ∷ b ∷ c ∷ d ∷ []) some utf8 are = (Rejected TooFewFields, too_few some utf8 (a ∷ b ∷ c ∷ d ∷ []) are (omega arith))
+of_fields outcome_from number line (a ∷ b ∷ c ∷ d ∷ e ∷ more) some utf8 are =
     let two = are.2 in
     let three = two.2 in
     let four = three.2 in
     let parts : Parts = record { surface = a; left = b; right = c; cost = d; feature = four.0 } in
-    (judge number parts, has_parts some utf8 parts (are.0, are.1, (two.0, two.1, (three.0, three.1, (four.0, four.1, refl)))))
+    (outcome_from number parts, has_parts some utf8 parts (are.0, are.1, (two.0, two.1, (three.0, three.1, (four.0, four.1, refl)))))
 
-an_outcome : (judge : ℕ → Parts → Outcome) (number : ℕ) (line : List ℕ) → (o : Outcome) × IsOutcome judge number line o
-an_outcome judge number line = elim (cases_Bool (is_blank_line line)) [
+an_outcome : (outcome_from : ℕ → Parts → Outcome) (number : ℕ) (line : List ℕ) → (o : Outcome) × IsOutcome outcome_from number line o
+an_outcome outcome_from number line = elim (cases_Bool (is_blank_line line)) [
   | inl blank ↦ (Blank, is_blank blank)
   | inr some ↦ elim (cases_Bool (is_utf8 line)) [
     | inl text ↦
         let f = a_field (without_leading_blanks line) in
-        let more = fields_from line f.0 f.1 f.2 in of_fields judge number line (f.0 ∷ more.0) some (IsUtf8-from_is_utf8 line text) more.1
-    | inr no_text ↦ (Refused NotUtf8, not_text some (λ utf8. both_ways (is_utf8 line) no_text (is_utf8-from_IsUtf8 line utf8)))
+        let more = fields_from line f.0 f.1 f.2 in of_fields outcome_from number line (f.0 ∷ more.0) some (IsUtf8-from_is_utf8 line text) more.1
+    | inr no_text ↦ (Rejected NotUtf8, not_text some (λ utf8. both_ways (is_utf8 line) no_text (is_utf8-from_IsUtf8 line utf8)))
   ]
 ]
 
-later_outcomes : (judge : ℕ → Parts → Outcome) (lines : List (ℕ × List ℕ)) → (os : List Outcome) × AreOutcomes judge lines os
-later_outcomes judge [] = ([], tt)
-later_outcomes judge (line ∷ lines) =
-    let o = an_outcome judge line.0 line.1 in
-    let more = later_outcomes judge lines in
+later_outcomes : (outcome_from : ℕ → Parts → Outcome) (lines : List (ℕ × List ℕ)) → (os : List Outcome) × AreOutcomes outcome_from lines os
+later_outcomes outcome_from [] = ([], tt)
+later_outcomes outcome_from (line ∷ lines) =
+    let o = an_outcome outcome_from line.0 line.1 in
+    let more = later_outcomes outcome_from lines in
     (o.0 ∷ more.0, (o.1, more.1))
 
 -- ---- outcomes one after another
 
-outcomes-append : (judge : ℕ → Parts → Outcome) (xs ys : List (ℕ × List ℕ)) (os ps : List Outcome) → AreOutcomes judge xs os → AreOutcomes judge ys ps → AreOutcomes judge (xs ++ ys) (os ++ ps)
-outcomes-append judge [] ys [] ps a b = b
-outcomes-append judge [] ys (o ∷ os) ps a b = absurd a
-outcomes-append judge (x ∷ xs) ys [] ps a b = absurd a
-outcomes-append judge (x ∷ xs) ys (o ∷ os) ps a b = (a.0, outcomes-append judge xs ys os ps a.1 b)
+outcomes-append : (outcome_from : ℕ → Parts → Outcome) (xs ys : List (ℕ × List ℕ)) (os ps : List Outcome) → AreOutcomes outcome_from xs os → AreOutcomes outcome_from ys ps → AreOutcomes outcome_from (xs ++ ys) (os ++ ps)
+outcomes-append outcome_from [] ys [] ps a b = b
+outcomes-append outcome_from [] ys (o ∷ os) ps a b = absurd a
+outcomes-append outcome_from (x ∷ xs) ys [] ps a b = absurd a
+outcomes-append outcome_from (x ∷ xs) ys (o ∷ os) ps a b = (a.0, outcomes-append outcome_from xs ys os ps a.1 b)
 
 -- if none of these is rejected, the first rejected line is among the following ones
 rejected-append : (file number held : ℕ) (os ps : List Outcome) → first_rejected file number held os ≡ None
@@ -70,7 +70,7 @@ rejected-append file number held (Blank ∷ os) ps none =
     rejected-append file (number + 1) held os ps none ∙ ap (λ (n : ℕ). first_rejected file n (held + length (accepted_rows os)) ps) (let e : number + 1 + length os ≡ number + length (Blank ∷ os) = omega arith in e)
 rejected-append file number held (Skipped ∷ os) ps none =
     rejected-append file (number + 1) held os ps none ∙ ap (λ (n : ℕ). first_rejected file n (held + length (accepted_rows os)) ps) (let e : number + 1 + length os ≡ number + length (Skipped ∷ os) = omega arith in e)
-rejected-append file number held (Refused kind ∷ os) ps none = absurd (cc)
+rejected-append file number held (Rejected kind ∷ os) ps none = absurd (cc)
 rejected-append file number held (Accepted row ∷ os) ps none =
     let there : Option SourceFault = Some (record { file = file; line = number; kind = TooManyEntries }) in
     elim (cases_Bool (ltb held ENTRIES_MAX)) [
@@ -86,11 +86,11 @@ rejected-append file number held (Accepted row ∷ os) ps none =
     ]
 
 -- a rejected line is rejected whatever follows it
-refused_first : (file number held : ℕ) (o : Outcome) (ps : List Outcome) (fault : SourceFault) → first_rejected file number held (o ∷ []) ≡ Some fault → first_rejected file number held (o ∷ ps) ≡ Some fault
-refused_first file number held Blank ps fault is = absurd (cc)
-refused_first file number held Skipped ps fault is = absurd (cc)
-refused_first file number held (Refused kind) ps fault is = is
-refused_first file number held (Accepted row) ps fault is =
+rejected_first : (file number held : ℕ) (o : Outcome) (ps : List Outcome) (fault : SourceFault) → first_rejected file number held (o ∷ []) ≡ Some fault → first_rejected file number held (o ∷ ps) ≡ Some fault
+rejected_first file number held Blank ps fault is = absurd (cc)
+rejected_first file number held Skipped ps fault is = absurd (cc)
+rejected_first file number held (Rejected kind) ps fault is = is
+rejected_first file number held (Accepted row) ps fault is =
     let there : Option SourceFault = Some (record { file = file; line = number; kind = TooManyEntries }) in
     elim (cases_Bool (ltb held ENTRIES_MAX)) [
       | inl fits ↦ let e : None ≡ Some fault = sym (cond-true (ltb held ENTRIES_MAX) None there fits) ∙ is in absurd (cc)
@@ -101,8 +101,8 @@ refused_first file number held (Accepted row) ps fault is =
 
 -- ---- the lines read so far
 
-pub read_none : (judge : ℕ → Parts → Outcome) (held : ℕ) (bytes : List ℕ) → IsReadUpTo judge held (numbered_lines bytes) (numbered_lines bytes) [] 0
-read_none judge held bytes = record {
+pub read_none : (outcome_from : ℕ → Parts → Outcome) (held : ℕ) (bytes : List ℕ) → IsReadUpTo outcome_from held (numbered_lines bytes) (numbered_lines bytes) [] 0
+read_none outcome_from held bytes = record {
   lines = [];
   outcomes = [];
   parts = refl;
@@ -118,29 +118,29 @@ first_number : List (ℕ × List ℕ) → ℕ
 first_number [] = 0
 first_number (line ∷ lines) = line.0
 
-lines_behind : List (ℕ × List ℕ) → List (ℕ × List ℕ)
-lines_behind [] = []
-lines_behind (line ∷ lines) = lines
+lines_after : List (ℕ × List ℕ) → List (ℕ × List ℕ)
+lines_after [] = []
+lines_after (line ∷ lines) = lines
 
 line_number : (n number : ℕ) (line : List ℕ) (left : List (ℕ × List ℕ)) (rest : List (List ℕ)) → (number, line) ∷ left ≡ enumerate_from n rest
     → (number ≡ n) × ((others : List (List ℕ)) × (left ≡ enumerate_from (n + 1) others))
-unfolding first_number lines_behind
+unfolding first_number lines_after
 line_number n number line left [] is = absurd (cc)
-line_number n number line left (r ∷ rest) is = (ap first_number is, (rest, ap lines_behind is))
+line_number n number line left (r ∷ rest) is = (ap first_number is, (rest, ap lines_after is))
 
 -- fewer lines are skipped than the next one's number
-pub skipped_below : (judge : ℕ → Parts → Outcome) (held : ℕ) (all : List (ℕ × List ℕ)) (number : ℕ) (line : List ℕ) (left now : List (ℕ × List ℕ)) (rows : List Row) (skipped : ℕ)
-    → now ≡ (number, line) ∷ left → IsReadUpTo judge held all now rows skipped → skipped < number
-skipped_below judge held all number line left now rows skipped is r =
+pub skipped_below : (outcome_from : ℕ → Parts → Outcome) (held : ℕ) (all : List (ℕ × List ℕ)) (number : ℕ) (line : List ℕ) (left now : List (ℕ × List ℕ)) (rows : List Row) (skipped : ℕ)
+    → now ≡ (number, line) ∷ left → IsReadUpTo outcome_from held all now rows skipped → skipped < number
+skipped_below outcome_from held all number line left now rows skipped is r =
     let n = line_number (1 + length r.outcomes) number line left r.rest (sym is ∙ r.numbers) in
     let e : number ≡ 1 + length r.outcomes = n.0 in
     let s : skipped ≡ count_by is_skipped r.outcomes = r.skipped_are in
     omega (arith, count_by-le-length is_skipped r.outcomes)
 
-pub line_taken : (judge : ℕ → Parts → Outcome) (held : ℕ) (all : List (ℕ × List ℕ)) (number : ℕ) (line : List ℕ) (left now : List (ℕ × List ℕ)) (rows more : List Row) (skipped held_now : ℕ) (counts : Bool)
-    → now ≡ (number, line) ∷ left → IsReadUpTo judge held all now rows skipped → held_now ≡ held + length rows → IsReadLine judge number line held_now counts more
-    → IsReadUpTo judge held all left (rows ++ more) (skipped + cond counts 1 0)
-line_taken judge held all number line left now rows more skipped held_now counts is r room t =
+pub line_taken : (outcome_from : ℕ → Parts → Outcome) (held : ℕ) (all : List (ℕ × List ℕ)) (number : ℕ) (line : List ℕ) (left now : List (ℕ × List ℕ)) (rows more : List Row) (skipped held_now : ℕ) (counts : Bool)
+    → now ≡ (number, line) ∷ left → IsReadUpTo outcome_from held all now rows skipped → held_now ≡ held + length rows → IsReadLine outcome_from number line held_now counts more
+    → IsReadUpTo outcome_from held all left (rows ++ more) (skipped + cond counts 1 0)
+line_taken outcome_from held all number line left now rows more skipped held_now counts is r room t =
     let n = line_number (1 + length r.outcomes) number line left r.rest (sym is ∙ r.numbers) in
     let here : ℕ × List ℕ = (number, line) in
     let rows_then : held + length rows ≡ held + length (accepted_rows r.outcomes) = ap (λ (xs : List Row). held + length xs) r.rows_are in
@@ -148,7 +148,7 @@ line_taken judge held all number line left now rows more skipped held_now counts
       lines = r.lines ++ here ∷ [];
       outcomes = r.outcomes ++ t.outcome ∷ [];
       parts = r.parts ∙ ap (λ (xs : List (ℕ × List ℕ)). r.lines ++ xs) is ∙ sym (append_assoc r.lines (here ∷ []) left);
-      are = outcomes-append judge r.lines (here ∷ []) r.outcomes (t.outcome ∷ []) r.are (t.is, tt);
+      are = outcomes-append outcome_from r.lines (here ∷ []) r.outcomes (t.outcome ∷ []) r.are (t.is, tt);
       none = λ file.
           rejected-append file 1 held r.outcomes (t.outcome ∷ []) (r.none file)
           ∙ ap (λ (k : ℕ). first_rejected file k (held + length (accepted_rows r.outcomes)) (t.outcome ∷ [])) (sym n.0)
@@ -160,12 +160,12 @@ line_taken judge held all number line left now rows more skipped held_now counts
       numbers = n.1.1 ∙ ap (λ (k : ℕ). enumerate_from k n.1.0) (let e : 1 + length r.outcomes + 1 ≡ 1 + length (r.outcomes ++ t.outcome ∷ []) = omega (arith, length-append r.outcomes (t.outcome ∷ [])) in e);
     }
 
-pub line_refused : (judge : ℕ → Parts → Outcome) (file held : ℕ) (bytes : List ℕ) (number : ℕ) (line : List ℕ) (left now : List (ℕ × List ℕ)) (rows : List Row) (skipped held_now : ℕ) (kind : SourceKind)
-    → now ≡ (number, line) ∷ left → IsReadUpTo judge held (numbered_lines bytes) now rows skipped → held_now ≡ held + length rows → IsRejectedLine judge number line held_now kind
-    → ReadsAs judge file held bytes (Err (record { file = file; line = number; kind = kind }))
-line_refused judge file held bytes number line left now rows skipped held_now kind is r room t =
+pub line_rejected : (outcome_from : ℕ → Parts → Outcome) (file held : ℕ) (bytes : List ℕ) (number : ℕ) (line : List ℕ) (left now : List (ℕ × List ℕ)) (rows : List Row) (skipped held_now : ℕ) (kind : SourceKind)
+    → now ≡ (number, line) ∷ left → IsReadUpTo outcome_from held (numbered_lines bytes) now rows skipped → held_now ≡ held + length rows → IsRejectedLine outcome_from number line held_now kind
+    → ReadsAs outcome_from file held bytes (Err (record { file = file; line = number; kind = kind }))
+line_rejected outcome_from file held bytes number line left now rows skipped held_now kind is r room t =
     let n = line_number (1 + length r.outcomes) number line left r.rest (sym is ∙ r.numbers) in
-    let later = later_outcomes judge left in
+    let later = later_outcomes outcome_from left in
     let here : ℕ × List ℕ = (number, line) in
     let fault : SourceFault = record { file = file; line = number; kind = kind } in
     let rows_then : held + length rows ≡ held + length (accepted_rows r.outcomes) = ap (λ (xs : List Row). held + length xs) r.rows_are in
@@ -174,20 +174,20 @@ line_refused judge file held bytes number line left now rows skipped held_now ki
     rejected-append file 1 held r.outcomes (t.outcome ∷ later.0) (r.none file)
     ∙ ap (λ (k : ℕ). first_rejected file k (held + length (accepted_rows r.outcomes)) (t.outcome ∷ later.0)) (sym n.0)
     ∙ ap (λ (k : ℕ). first_rejected file number k (t.outcome ∷ later.0)) (sym (room ∙ rows_then))
-    ∙ refused_first file number held_now t.outcome later.0 fault (t.rejected file) in
-    let are : AreOutcomes judge (r.lines ++ here ∷ left) all = outcomes-append judge r.lines (here ∷ left) r.outcomes (t.outcome ∷ later.0) r.are (t.is, later.1) in (
+    ∙ rejected_first file number held_now t.outcome later.0 fault (t.rejected file) in
+    let are : AreOutcomes outcome_from (r.lines ++ here ∷ left) all = outcomes-append outcome_from r.lines (here ∷ left) r.outcomes (t.outcome ∷ later.0) r.are (t.is, later.1) in (
       all,
-      subst (λ (ls : List (ℕ × List ℕ)). AreOutcomes judge ls all) (sym (r.parts ∙ ap (λ (xs : List (ℕ × List ℕ)). r.lines ++ xs) is)) are,
+      subst (λ (ls : List (ℕ × List ℕ)). AreOutcomes outcome_from ls all) (sym (r.parts ∙ ap (λ (xs : List (ℕ × List ℕ)). r.lines ++ xs) is)) are,
       sym (ap (λ (f : Option SourceFault). reading_unless f all) first),
     )
 
-pub all_read : (judge : ℕ → Parts → Outcome) (file held : ℕ) (bytes : List ℕ) (now : List (ℕ × List ℕ)) (rows : List Row) (skipped : ℕ) → now ≡ [] → IsReadUpTo judge held (numbered_lines bytes) now rows skipped
-    → ReadsAs judge file held bytes (Ok (record { rows = rows; skipped = skipped }))
-all_read judge file held bytes now rows skipped is r =
+pub all_read : (outcome_from : ℕ → Parts → Outcome) (file held : ℕ) (bytes : List ℕ) (now : List (ℕ × List ℕ)) (rows : List Row) (skipped : ℕ) → now ≡ [] → IsReadUpTo outcome_from held (numbered_lines bytes) now rows skipped
+    → ReadsAs outcome_from file held bytes (Ok (record { rows = rows; skipped = skipped }))
+all_read outcome_from file held bytes now rows skipped is r =
     let read : Reading = record { rows = rows; skipped = skipped } in
     let same : read ≡ record { rows = accepted_rows r.outcomes; skipped = count_by is_skipped r.outcomes } =
     ap (λ (xs : List Row). record { rows = xs; skipped = skipped }) r.rows_are ∙ ap (λ (k : ℕ). record { rows = accepted_rows r.outcomes; skipped = k }) r.skipped_are in (
       r.outcomes,
-      subst (λ (ls : List (ℕ × List ℕ)). AreOutcomes judge ls r.outcomes) (sym (r.parts ∙ ap (λ (xs : List (ℕ × List ℕ)). r.lines ++ xs) is ∙ append-nil r.lines)) r.are,
+      subst (λ (ls : List (ℕ × List ℕ)). AreOutcomes outcome_from ls r.outcomes) (sym (r.parts ∙ ap (λ (xs : List (ℕ × List ℕ)). r.lines ++ xs) is ∙ append-nil r.lines)) r.are,
       ap (λ (x : Reading). Ok x) same ∙ sym (ap (λ (f : Option SourceFault). reading_unless f r.outcomes) (r.none file)),
     )

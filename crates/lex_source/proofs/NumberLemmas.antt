@@ -29,8 +29,8 @@ no_unsigned : (text : List ℕ) → list_any is_quote text ≡ true → unsigned
 no_unsigned text h = cond-false (nat_lt 0 (length text) && all_ascii_digits text) (Some (digits_value text)) None (and_right (nat_lt 0 (length text)) (all_ascii_digits text) (no_digits text h))
 
 -- after a sign
-behind_sign : (c sign : ℕ) (cs : List ℕ) → (c == sign) ≡ true → is_quote sign ≡ false → list_any is_quote (c ∷ cs) ≡ true → list_any is_quote cs ≡ true
-behind_sign c sign cs is other h = elim (or_cases (is_quote c) (list_any is_quote cs) h) [
+after_sign : (c sign : ℕ) (cs : List ℕ) → (c == sign) ≡ true → is_quote sign ≡ false → list_any is_quote (c ∷ cs) ≡ true → list_any is_quote cs ≡ true
+after_sign c sign cs is other h = elim (or_cases (is_quote c) (list_any is_quote cs) h) [
   | inl here ↦ absurd (both_ways (is_quote c) (ap is_quote (eqb-true c sign is) ∙ other) here)
   | inr later ↦ later
 ]
@@ -42,9 +42,9 @@ no_signed (c ∷ cs) h =
     let positive : Option ℤ = option_map pos (unsigned_number cs) in
     let plain : Option ℤ = option_map pos (unsigned_number (c ∷ cs)) in
     elim (cases_Bool (c == minus)) [
-      | inl is ↦ cond-true (c == minus) negative (cond (c == plus) positive plain) is ∙ ap (option_map (λ n. neg_ℤ (pos n))) (no_unsigned cs (behind_sign c minus cs is refl h))
+      | inl is ↦ cond-true (c == minus) negative (cond (c == plus) positive plain) is ∙ ap (option_map (λ n. neg_ℤ (pos n))) (no_unsigned cs (after_sign c minus cs is refl h))
       | inr not_minus ↦ cond-false (c == minus) negative (cond (c == plus) positive plain) not_minus ∙ elim (cases_Bool (c == plus)) [
-        | inl is ↦ cond-true (c == plus) positive plain is ∙ ap (option_map pos) (no_unsigned cs (behind_sign c plus cs is refl h))
+        | inl is ↦ cond-true (c == plus) positive plain is ∙ ap (option_map pos) (no_unsigned cs (after_sign c plus cs is refl h))
         | inr not_plus ↦ cond-false (c == plus) positive plain not_plus ∙ ap (option_map pos) (no_unsigned (c ∷ cs) h)
       ]
     ]

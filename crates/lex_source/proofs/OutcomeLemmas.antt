@@ -9,7 +9,7 @@ use Rattle.mj_model.specs.Bytes.{quote}
 use Rattle.mj_model.specs.Lines.{is_blank_line}
 use Rattle.mj_model.specs.Fields.{with_doubled_quotes, AreFields, AreFirstFields}
 use Rattle.mj_model.specs.Numbers.{number, context_id, cost}
-use Rattle.mj_model.specs.Lexicon.{Row, Parts, Outcome, Skipped, Refused, Accepted, IsOutcome, too_few, has_parts, row_from, lexicon_outcome, accept_short}
+use Rattle.mj_model.specs.Lexicon.{Row, Parts, Outcome, Skipped, Rejected, Accepted, IsOutcome, too_few, has_parts, row_from, lexicon_outcome, accept_short}
 use Rattle.lex_source.specs.declared.parts.LineParts.{LineParts}
 use Rattle.lex_source.specs.Spelled.{IsRawForm, HasFewFields, HasEntry}
 use Rattle.lex_source.specs.Steps.{accept_any, row_outcome}
@@ -85,41 +85,41 @@ pub is_skipped_line : (line : ℕ) (parts : Parts) (raw : List ℕ) (quoted : Bo
 is_skipped_line line parts raw quoted is empty =
     cond-true (length parts.surface == 0) Skipped (accept_short (row_from line parts)) (sym (spelled_empty raw quoted parts.surface is) ∙ empty)
 
-pub is_judged_line : (line : ℕ) (parts : Parts) (raw : List ℕ) (quoted : Bool) → IsRawForm raw quoted parts.surface → (length raw == 0) ≡ false
+pub is_tested_line : (line : ℕ) (parts : Parts) (raw : List ℕ) (quoted : Bool) → IsRawForm raw quoted parts.surface → (length raw == 0) ≡ false
     → lexicon_outcome line parts ≡ accept_short (row_from line parts)
-is_judged_line line parts raw quoted is some =
+is_tested_line line parts raw quoted is some =
     cond-false (length parts.surface == 0) Skipped (accept_short (row_from line parts)) (sym (spelled_empty raw quoted parts.surface is) ∙ some)
 
-pub judged_refusal : (line : ℕ) (parts : Parts) (raw : List ℕ) (quoted : Bool) (kind : SourceKind) → IsRawForm raw quoted parts.surface → (length raw == 0) ≡ false
-    → (kind ≡ Memory) ⊎ (accept_short (row_from line parts) ≡ Refused kind) → (kind ≡ Memory) ⊎ (lexicon_outcome line parts ≡ Refused kind)
-judged_refusal line parts raw quoted kind is some (inl memory) = inl memory
-judged_refusal line parts raw quoted kind is some (inr cause) = inr (is_judged_line line parts raw quoted is some ∙ cause)
+pub tested_error : (line : ℕ) (parts : Parts) (raw : List ℕ) (quoted : Bool) (kind : SourceKind) → IsRawForm raw quoted parts.surface → (length raw == 0) ≡ false
+    → (kind ≡ Memory) ⊎ (accept_short (row_from line parts) ≡ Rejected kind) → (kind ≡ Memory) ⊎ (lexicon_outcome line parts ≡ Rejected kind)
+tested_error line parts raw quoted kind is some (inl memory) = inl memory
+tested_error line parts raw quoted kind is some (inr cause) = inr (is_tested_line line parts raw quoted is some ∙ cause)
 
 -- ---- a line's outcome
 
-pub few_outcome : (judge : ℕ → Parts → Outcome) (number : ℕ) (line text : List ℕ) → is_blank_line line ≡ false → text ≡ line → IsUtf8 line → HasFewFields text → IsOutcome judge number line (Refused TooFewFields)
-few_outcome judge number line text some same utf8 few =
+pub few_outcome : (outcome_from : ℕ → Parts → Outcome) (number : ℕ) (line text : List ℕ) → is_blank_line line ≡ false → text ≡ line → IsUtf8 line → HasFewFields text → IsOutcome outcome_from number line (Rejected TooFewFields)
+few_outcome outcome_from number line text some same utf8 few =
     too_few some utf8 few.0 (subst (λ (xs : List ℕ). AreFields xs few.0) same few.1) few.2
 
-pub parts_outcome : (judge : ℕ → Parts → Outcome) (number : ℕ) (line text : List ℕ) (parts : Parts) (o : Outcome) → is_blank_line line ≡ false → text ≡ line → IsUtf8 line
-    → AreFirstFields text (parts.surface ∷ parts.left ∷ parts.right ∷ parts.cost ∷ []) parts.feature → judge number parts ≡ o → IsOutcome judge number line o
-parts_outcome judge number line text parts o some same utf8 first is =
-    subst (λ (x : Outcome). IsOutcome judge number line x) is
+pub parts_outcome : (outcome_from : ℕ → Parts → Outcome) (number : ℕ) (line text : List ℕ) (parts : Parts) (o : Outcome) → is_blank_line line ≡ false → text ≡ line → IsUtf8 line
+    → AreFirstFields text (parts.surface ∷ parts.left ∷ parts.right ∷ parts.cost ∷ []) parts.feature → outcome_from number parts ≡ o → IsOutcome outcome_from number line o
+parts_outcome outcome_from number line text parts o some same utf8 first is =
+    subst (λ (x : Outcome). IsOutcome outcome_from number line x) is
     (has_parts some utf8 parts (subst (λ (xs : List ℕ). AreFirstFields xs (parts.surface ∷ parts.left ∷ parts.right ∷ parts.cost ∷ []) parts.feature) same first))
 
-pub parts_refusal : (judge : ℕ → Parts → Outcome) (number : ℕ) (line text : List ℕ) (parts : Parts) (kind : SourceKind) → is_blank_line line ≡ false → text ≡ line → IsUtf8 line
-    → AreFirstFields text (parts.surface ∷ parts.left ∷ parts.right ∷ parts.cost ∷ []) parts.feature → (kind ≡ Memory) ⊎ (judge number parts ≡ Refused kind)
-    → (kind ≡ Memory) ⊎ IsOutcome judge number line (Refused kind)
-parts_refusal judge number line text parts kind some same utf8 first (inl memory) = inl memory
-parts_refusal judge number line text parts kind some same utf8 first (inr cause) = inr (parts_outcome judge number line text parts (Refused kind) some same utf8 first cause)
+pub parts_error : (outcome_from : ℕ → Parts → Outcome) (number : ℕ) (line text : List ℕ) (parts : Parts) (kind : SourceKind) → is_blank_line line ≡ false → text ≡ line → IsUtf8 line
+    → AreFirstFields text (parts.surface ∷ parts.left ∷ parts.right ∷ parts.cost ∷ []) parts.feature → (kind ≡ Memory) ⊎ (outcome_from number parts ≡ Rejected kind)
+    → (kind ≡ Memory) ⊎ IsOutcome outcome_from number line (Rejected kind)
+parts_error outcome_from number line text parts kind some same utf8 first (inl memory) = inl memory
+parts_error outcome_from number line text parts kind some same utf8 first (inr cause) = inr (parts_outcome outcome_from number line text parts (Rejected kind) some same utf8 first cause)
 
 -- the outcome of a line if every row is accepted
 pub row_accepted : (number : ℕ) (line : List ℕ) (raw : LineParts) (row : Row) (entry : HasEntry line raw) → row_from number entry.has.parts ≡ Some row → IsOutcome row_outcome number line (Accepted row)
 row_accepted number line raw row entry is =
     parts_outcome row_outcome number line line entry.has.parts (Accepted row) entry.filled refl entry.utf8 entry.has.first (ap accept_any is)
 
-pub row_refused : (number : ℕ) (line : List ℕ) (raw : LineParts) (kind : SourceKind) (entry : HasEntry line raw) → (kind ≡ Memory) ⊎ ((kind ≡ BadNumber) × (row_from number entry.has.parts ≡ None))
-    → (kind ≡ Memory) ⊎ IsOutcome row_outcome number line (Refused kind)
-row_refused number line raw kind entry (inl memory) = inl memory
-row_refused number line raw kind entry (inr cause) =
-    inr (parts_outcome row_outcome number line line entry.has.parts (Refused kind) entry.filled refl entry.utf8 entry.has.first (ap accept_any cause.1 ∙ sym (ap Refused cause.0)))
+pub row_rejected : (number : ℕ) (line : List ℕ) (raw : LineParts) (kind : SourceKind) (entry : HasEntry line raw) → (kind ≡ Memory) ⊎ ((kind ≡ BadNumber) × (row_from number entry.has.parts ≡ None))
+    → (kind ≡ Memory) ⊎ IsOutcome row_outcome number line (Rejected kind)
+row_rejected number line raw kind entry (inl memory) = inl memory
+row_rejected number line raw kind entry (inr cause) =
+    inr (parts_outcome row_outcome number line line entry.has.parts (Rejected kind) entry.filled refl entry.utf8 entry.has.first (ap accept_any cause.1 ∙ sym (ap Rejected cause.0)))

@@ -84,10 +84,10 @@ heads_agree (suc n) (x ∷ xs) [] = end_above (suc n) (x ∷ xs)
 heads_agree (suc n) (x ∷ xs) (y ∷ ys) = then_agrees (nat_cmp x y) (order (padded n xs) (padded n ys)) (order xs ys) (heads_agree n xs ys)
 
 -- unequal prefixes compare as their texts do
-pub told_by_heads : (xs ys heads_of_xs heads_of_ys : List ℕ) (o : Ordering) → heads_of_xs ≡ prefix_of_bytes xs → heads_of_ys ≡ prefix_of_bytes ys
+pub reported_by_heads : (xs ys heads_of_xs heads_of_ys : List ℕ) (o : Ordering) → heads_of_xs ≡ prefix_of_bytes xs → heads_of_ys ≡ prefix_of_bytes ys
     → o ≡ order heads_of_xs heads_of_ys → (o ≡ Equal → ⊥) → o ≡ order xs ys
 unfolding Agrees
-told_by_heads xs ys hx hy o e f by other =
+reported_by_heads xs ys hx hy o e f by other =
     let same : o ≡ order (padded 8 xs) (padded 8 ys) = by ∙ ap (λ (h : List ℕ). order h hy) (e ∙ head_is xs) ∙ ap (order (padded 8 xs)) (f ∙ head_is ys) in
     elim (heads_agree 8 xs ys) [
       | inl equal ↦ absurd (other (same ∙ equal))

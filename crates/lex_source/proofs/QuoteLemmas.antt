@@ -135,8 +135,8 @@ pub unquoted : (field text : List ℕ) → text ≡ with_doubled_quotes field �
 unquoted field text is h = is ∙ no_left field (ap (list_any is_quote) (sym is) ∙ h)
 
 -- the first quote of a doubled text is followed by another
-pub behind_quote : (rest before following : List ℕ) → IsDoubled rest → IsSplit is_quote rest before following → (0 < length following) × (slice_index following 0 < 128)
-behind_quote rest before following d cut =
+pub after_quote : (rest before following : List ℕ) → IsDoubled rest → IsSplit is_quote rest before following → (0 < length following) × (slice_index following 0 < 128)
+after_quote rest before following d cut =
     let r = pair d.0 rest before following d.1 cut in
     subst (λ (xs : List ℕ). (0 < length xs) × (slice_index xs 0 < 128)) (sym r.1) (omega arith, omega arith)
 
@@ -155,8 +155,8 @@ pub read_all : (field rest done after : List ℕ) → (left : List ℕ) × (rest
 read_all field rest done after p none pushed = pushed ∙ ap (λ (xs : List ℕ). done ++ xs) (unquoted p.0 rest p.1 none) ∙ sym p.2
 
 -- the bytes before stay unchanged
-pub front_more : (old done more new : List ℕ) → take (length old) done ≡ old → new ≡ done ++ more → take (length old) new ≡ old
-front_more old done more new front is =
+pub prefix_more : (old done more new : List ℕ) → take (length old) done ≡ old → new ≡ done ++ more → take (length old) new ≡ old
+prefix_more old done more new front is =
     let long : length (take (length old) done) ≡ min (length old) (length done) = length-take (length old) done in
     let same : length (take (length old) done) ≡ length old = ap length front in
     let low : length old ≤ length done = omega (arith, long, same) in

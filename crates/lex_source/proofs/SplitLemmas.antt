@@ -57,11 +57,11 @@ after_blanks text n utf8 is some =
     subst (λ (k : ℕ). IsCharBoundary text k) e (IsCharBoundary-after_ascii text (n - 1) utf8 within ascii)
 
 -- nothing follows the end of a text
-pub behind_all : (bytes : List ℕ) → take (length bytes - length bytes) (drop (length bytes) bytes) ≡ []
-behind_all bytes = take_rest bytes (length bytes) ∙ drop_all (length bytes) bytes (omega arith)
+pub after_all : (bytes : List ℕ) → take (length bytes - length bytes) (drop (length bytes) bytes) ≡ []
+after_all bytes = take_rest bytes (length bytes) ∙ drop_all (length bytes) bytes (omega arith)
 
-pub blanks_behind : (text : List ℕ) (n : ℕ) → n ≤ length text → ((k : ℕ) → n ≤ k → k < length text → is_blank (get_or text k 0) ≡ true) → (0 < n → is_blank (get_or text (n - 1) 0) ≡ false) → take n text ≡ without_trailing_blanks text
-blanks_behind text n in' are stops =
+pub blanks_after : (text : List ℕ) (n : ℕ) → n ≤ length text → ((k : ℕ) → n ≤ k → k < length text → is_blank (get_or text k 0) ≡ true) → (0 < n → is_blank (get_or text (n - 1) 0) ≡ false) → take n text ≡ without_trailing_blanks text
+blanks_after text n in' are stops =
     let e : length text - suffix_len is_blank text ≡ n = let s : suffix_len is_blank text ≡ length text - n = suffix_len_is is_blank text n 0 in' are stops in omega arith in
     sym (ap (λ (k : ℕ). take k text) e)
 

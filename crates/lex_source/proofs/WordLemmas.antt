@@ -9,16 +9,16 @@ use Rattle.std.proofs.lemmas.List.Sums.{passes_at_first, fails_before_first, pre
 use Rattle.mj_model.specs.Bytes.{is_blank}
 use Rattle.mj_model.specs.Connection.{words_of}
 
-words_behind_blank : (c : ℕ) (cs : List ℕ) → is_blank c ≡ true → words_of (c ∷ cs) ≡ words_of cs
-words_behind_blank c cs is = ap (filter (λ word. nat_lt 0 (length word))) (slice_split-cons_yes is_blank c cs is)
+words_after_blank : (c : ℕ) (cs : List ℕ) → is_blank c ≡ true → words_of (c ∷ cs) ≡ words_of cs
+words_after_blank c cs is = ap (filter (λ word. nat_lt 0 (length word))) (slice_split-cons_yes is_blank c cs is)
 
-words_behind : (text : List ℕ) (n : ℕ) → prefix_len is_blank text ≡ n → words_of (drop n text) ≡ words_of text
-words_behind [] n is = ap words_of (drop_all n [] (omega arith))
-words_behind (c ∷ cs) n is = elim (cases_Bool (is_blank c)) [
+words_after : (text : List ℕ) (n : ℕ) → prefix_len is_blank text ≡ n → words_of (drop n text) ≡ words_of text
+words_after [] n is = ap words_of (drop_all n [] (omega arith))
+words_after (c ∷ cs) n is = elim (cases_Bool (is_blank c)) [
   | inl blank ↦
       let e : 1 + prefix_len is_blank cs ≡ n = sym (ap (λ (b : Bool). cond b (1 + prefix_len is_blank cs) 0) blank) ∙ is in
       let s : n ≡ suc (prefix_len is_blank cs) = omega arith in
-      ap (λ (k : ℕ). words_of (drop k (c ∷ cs))) s ∙ words_behind cs (prefix_len is_blank cs) refl ∙ sym (words_behind_blank c cs blank)
+      ap (λ (k : ℕ). words_of (drop k (c ∷ cs))) s ∙ words_after cs (prefix_len is_blank cs) refl ∙ sym (words_after_blank c cs blank)
   | inr other ↦
       let e : 0 ≡ n = sym (ap (λ (b : Bool). cond b (1 + prefix_len is_blank cs) 0) other) ∙ is in
       sym (ap (λ (k : ℕ). words_of (drop k (c ∷ cs))) e)
@@ -41,7 +41,7 @@ word_first text n some other is = elim (cases_lt n (length text)) [
       let long : 0 < n = first_later text n some other here in
       let split : slice_split is_blank text ≡ take n text ∷ slice_split is_blank (drop (n + 1) text) =
       slice_split_first is_blank text 0 within ∙ sym (ap (λ (k : ℕ). take k text ∷ slice_split is_blank (drop (k + 1) text)) is) in
-      let following : words_of (drop n text) ≡ words_of (drop (n + 1) text) = ap words_of (drop_more text n 0 in') ∙ words_behind_blank (get_or text n 0) (drop (n + 1) text) here in
+      let following : words_of (drop n text) ≡ words_of (drop (n + 1) text) = ap words_of (drop_more text n 0 in') ∙ words_after_blank (get_or text n 0) (drop (n + 1) text) here in
       let kept : nat_lt 0 (length (take n text)) ≡ true = lt-ltb 0 (length (take n text)) (omega (arith, length-take {A = ℕ})) in
       ap (filter (λ word. nat_lt 0 (length word))) split ∙ cond-true (nat_lt 0 (length (take n text))) (take n text ∷ words_of (drop (n + 1) text)) (words_of (drop (n + 1) text)) kept
       ∙ ap (λ (ws : List (List ℕ)). take n text ∷ ws) (sym following)
@@ -55,7 +55,7 @@ word_first text n some other is = elim (cases_lt n (length text)) [
 
 -- after the blanks of a line
 pub no_word : (line text : List ℕ) (n : ℕ) → n ≡ prefix_len is_blank line → text ≡ drop n line → length text ≡ 0 → words_of line ≡ []
-no_word line text n is following none = sym (words_behind line n (sym is)) ∙ ap words_of (sym following ∙ nil_from_length text none)
+no_word line text n is following none = sym (words_after line n (sym is)) ∙ ap words_of (sym following ∙ nil_from_length text none)
 
 pub a_word : (line text word rest : List ℕ) (n end : ℕ) → n ≡ prefix_len is_blank line → text ≡ drop n line → 0 < length text → end ≡ position_or_len is_blank text → word ≡ take end text → rest ≡ drop end text
     → words_of line ≡ word ∷ words_of rest
@@ -64,7 +64,7 @@ a_word line text word rest n end is following some end_is word_is rest_is =
     let within : prefix_len is_blank line < length line = omega (arith, length-drop n line) in
     let here : get_or text 0 0 ≡ get_or line (prefix_len is_blank line) 0 =
     ap (λ (xs : List ℕ). get_or xs 0 0) following ∙ get_or-drop n line 0 0 ∙ ap (λ (k : ℕ). get_or line k 0) (let e : n + 0 ≡ prefix_len is_blank line = omega arith in e) in
-    sym (words_behind line n (sym is)) ∙ ap words_of (sym following)
+    sym (words_after line n (sym is)) ∙ ap words_of (sym following)
     ∙ word_first text end some (ap is_blank here ∙ prefix_len_stops is_blank line 0 within) end_is
     ∙ ap (λ (xs : List ℕ). xs ∷ words_of (drop end text)) (sym word_is) ∙ ap (λ (xs : List ℕ). word ∷ words_of xs) (sym rest_is)
 

@@ -8,7 +8,7 @@ use Rattle.mj_model.specs.declared.source_fault.SourceKind.{SourceKind}
 use Rattle.mj_model.specs.declared.source_fault.SourceKind.TheVariants.{Memory, BadNumber}
 use Rattle.mj_model.specs.Fields.{AreFields}
 use Rattle.mj_model.specs.FirstFault.{IsMemoryOr}
-use Rattle.mj_model.specs.Lexicon.{Row, Parts, Outcome, Refused, Accepted, IsOutcome, IsLexicon, lexicon_outcome, row_of, rows_of}
+use Rattle.mj_model.specs.Lexicon.{Row, Parts, Outcome, Rejected, Accepted, IsOutcome, IsLexicon, lexicon_outcome, row_of, rows_of}
 use Rattle.mj_model.specs.Lines.{is_blank_line}
 use Rattle.lex_source.specs.declared.outcome.LineOutcome.{LineOutcome}
 use Rattle.lex_source.specs.declared.parts.LineParts.{LineParts}
@@ -47,18 +47,18 @@ IsOrMemory kind Cause = (kind ≡ Memory) ⊎ Cause
 abbrev pub IsLineResult : ℕ → List ℕ → Result LineOutcome SourceKind → Type 0
 IsLineResult number line answer =
     MatchResult answer (λ read. IsOutcome lexicon_outcome number line (outcome_of read))
-    (λ kind. IsOrMemory kind (IsOutcome lexicon_outcome number line (Refused kind)))
+    (λ kind. IsOrMemory kind (IsOutcome lexicon_outcome number line (Rejected kind)))
 
 -- the record of a line with any surface
 abbrev pub IsRecordResult : ℕ → List ℕ → Result (Option Record) SourceKind → Type 0
 IsRecordResult number line answer =
     MatchResult answer (λ found. IsOutcome row_outcome number line (record_outcome found))
-    (λ kind. IsOrMemory kind (IsOutcome row_outcome number line (Refused kind)))
+    (λ kind. IsOrMemory kind (IsOutcome row_outcome number line (Rejected kind)))
 
 -- the record that an outcome accepts
 abbrev pub IsAcceptedRecord : Outcome → Result Record SourceKind → Type 0
 IsAcceptedRecord outcome answer =
-    MatchResult answer (λ made. outcome ≡ Accepted (row_of made)) (λ kind. IsOrMemory kind (outcome ≡ Refused kind))
+    MatchResult answer (λ made. outcome ≡ Accepted (row_of made)) (λ kind. IsOrMemory kind (outcome ≡ Rejected kind))
 
 -- the row, or an error because one of its numbers is invalid
 abbrev pub IsRowResult : Option Row → Result Record SourceKind → Type 0
@@ -70,7 +70,7 @@ IsRowResult row answer =
 abbrev pub IsPartsResult : List ℕ → Result (Option LineParts) SourceKind → Type 0
 IsPartsResult line answer =
     MatchResult answer (λ found. MatchOption found (IsTrue (is_blank_line line)) (HasEntry line))
-    (λ kind. (judge : ℕ → Parts → Outcome) (number : ℕ) → IsOutcome judge number line (Refused kind))
+    (λ kind. (outcome_from : ℕ → Parts → Outcome) (number : ℕ) → IsOutcome outcome_from number line (Rejected kind))
 
 -- ---- lexicons
 

@@ -4,7 +4,7 @@ use Rattle.std.specs.List.{enumerate_from}
 use Rattle.mj_model.specs.declared.entry.Record.{Record}
 use Rattle.mj_model.specs.declared.source_fault.SourceKind.{SourceKind}
 use Rattle.mj_model.specs.declared.source_fault.SourceKind.TheVariants.{BadNumber}
-use Rattle.mj_model.specs.Lexicon.{Row, row_of, row_from, rows_of, Parts, Outcome, Blank, Skipped, Refused, Accepted, lexicon_outcome, IsOutcome, AreOutcomes, first_rejected, accepted_rows, is_skipped}
+use Rattle.mj_model.specs.Lexicon.{Row, row_of, row_from, rows_of, Parts, Outcome, Blank, Skipped, Rejected, Accepted, lexicon_outcome, IsOutcome, AreOutcomes, first_rejected, accepted_rows, is_skipped}
 use Rattle.lex_source.specs.declared.outcome.LineOutcome.{LineOutcome}
 use Rattle.lex_source.specs.declared.outcome.LineOutcome.TheVariants as line
 use Rattle.lex_source.specs.declared.outcome.IdsAndCost.{IdsAndCost}
@@ -17,7 +17,7 @@ outcome_of (line.Accepted record') = Accepted (row_of record')
 
 -- the outcome of a line whose parts form this row, if any surface is accepted
 abbrev pub accept_any : Option Row → Outcome
-accept_any None = Refused BadNumber
+accept_any None = Rejected BadNumber
 accept_any (Some row) = Accepted row
 
 abbrev pub row_outcome : ℕ → Parts → Outcome
@@ -33,25 +33,25 @@ abbrev pub row_with : ℕ → Parts → IdsAndCost → Row
 row_with number parts n = record { line = number; surface = parts.surface; left = n.left; right = n.right; cost = n.cost; feature = parts.feature }
 
 -- after `held` entries a line is not rejected, and it adds these rows
-pub record IsReadLine (judge : ℕ → Parts → Outcome) (number : ℕ) (text : List ℕ) (held : ℕ) (skipped : Bool) (rows : List Row) : Type 0 where
+pub record IsReadLine (outcome_from : ℕ → Parts → Outcome) (number : ℕ) (text : List ℕ) (held : ℕ) (skipped : Bool) (rows : List Row) : Type 0 where
   pub outcome : Outcome
-  pub is : IsOutcome judge number text outcome
+  pub is : IsOutcome outcome_from number text outcome
   pub fits : (file : ℕ) → first_rejected file number held (outcome ∷ []) ≡ None
   pub appended : rows ≡ accepted_rows (outcome ∷ [])
   pub counted : skipped ≡ is_skipped outcome
 
 -- after `held` entries a line is rejected for this reason
-pub record IsRejectedLine (judge : ℕ → Parts → Outcome) (number : ℕ) (text : List ℕ) (held : ℕ) (kind : SourceKind) : Type 0 where
+pub record IsRejectedLine (outcome_from : ℕ → Parts → Outcome) (number : ℕ) (text : List ℕ) (held : ℕ) (kind : SourceKind) : Type 0 where
   pub outcome : Outcome
-  pub is : IsOutcome judge number text outcome
+  pub is : IsOutcome outcome_from number text outcome
   pub rejected : (file : ℕ) → first_rejected file number held (outcome ∷ []) ≡ Some (record { file = file; line = number; kind = kind })
 
 -- the lines before `left` are not rejected, and they add these rows
-pub record IsReadUpTo (judge : ℕ → Parts → Outcome) (held : ℕ) (all left : List (ℕ × List ℕ)) (rows : List Row) (skipped : ℕ) : Type 0 where
+pub record IsReadUpTo (outcome_from : ℕ → Parts → Outcome) (held : ℕ) (all left : List (ℕ × List ℕ)) (rows : List Row) (skipped : ℕ) : Type 0 where
   pub lines : List (ℕ × List ℕ)
   pub outcomes : List Outcome
   pub parts : all ≡ lines ++ left
-  pub are : AreOutcomes judge lines outcomes
+  pub are : AreOutcomes outcome_from lines outcomes
   pub none : (file : ℕ) → first_rejected file 1 held outcomes ≡ None
   pub rows_are : rows ≡ accepted_rows outcomes
   pub skipped_are : skipped ≡ count_by is_skipped outcomes

@@ -25,6 +25,7 @@ impl<'a> Model for Lines<'a> {
 }
 
 impl<'a> Lines<'a> {
+    /// Returns the lines of `bytes`, numbered from 1.
     pub(crate) fn new(bytes: &'a [u8]) -> Lines<'a>
         ensures { result ≡ numbered_lines bytes.now }
     {

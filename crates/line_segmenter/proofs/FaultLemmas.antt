@@ -15,29 +15,29 @@ use Rattle.line_segmenter.proofs.OutOfMemoryLemmas.{no_overlay}
 
 -- what holds if memory runs out, and for an image's error of that kind, holds for the segmenter's
 -- error
-told_if : (Is : ImageFault → Type 0) (P : SegmentFault → Type 0) (fault : ImageFault) → P segment.Memory → ((f : ImageFault) → Is f → P (segment.Image f)) → Is fault → P (of_image_fault fault)
-told_if Is P image.Truncated m k h = k _ h
-told_if Is P image.BadMagic m k h = k _ h
-told_if Is P (image.BadLayout n) m k h = k _ h
-told_if Is P (image.BadSection n) m k h = k _ h
-told_if Is P (image.BadKey n) m k h = k _ h
-told_if Is P (image.BadToken n) m k h = k _ h
-told_if Is P (image.BadText n) m k h = k _ h
-told_if Is P image.Digest m k h = k _ h
-told_if Is P image.Memory m k h = m
+reported_if : (Is : ImageFault → Type 0) (P : SegmentFault → Type 0) (fault : ImageFault) → P segment.Memory → ((f : ImageFault) → Is f → P (segment.Image f)) → Is fault → P (of_image_fault fault)
+reported_if Is P image.Truncated m k h = k _ h
+reported_if Is P image.BadMagic m k h = k _ h
+reported_if Is P (image.BadLayout n) m k h = k _ h
+reported_if Is P (image.BadSection n) m k h = k _ h
+reported_if Is P (image.BadKey n) m k h = k _ h
+reported_if Is P (image.BadToken n) m k h = k _ h
+reported_if Is P (image.BadText n) m k h = k _ h
+reported_if Is P image.Digest m k h = k _ h
+reported_if Is P image.Memory m k h = m
 
 reported : (Is : ImageFault → Type 0) (P : SegmentFault → Type 0) (fault : ImageFault) → P segment.Memory → ((f : ImageFault) → Is f → P (segment.Image f)) → (fault ≡ image.Memory) ⊎ Is fault
     → P (of_image_fault fault)
 reported Is P fault m k (inl e) = subst (λ (f : ImageFault). P (of_image_fault f)) (sym e) m
-reported Is P fault m k (inr h) = told_if Is P fault m k h
+reported Is P fault m k (inr h) = reported_if Is P fault m k h
 
-pub load_refused : (digest : DigestTest) (bytes : List ℕ) (fault : ImageFault) → (fault ≡ image.Memory) ⊎ IsImageFault digest bytes fault → IsLoadError digest bytes (of_image_fault fault)
+pub load_rejected : (digest : DigestTest) (bytes : List ℕ) (fault : ImageFault) → (fault ≡ image.Memory) ⊎ IsImageFault digest bytes fault → IsLoadError digest bytes (of_image_fault fault)
 unfolding IsFaultOf
-load_refused digest bytes fault h = reported (IsImageFault digest bytes) (IsLoadError digest bytes) fault tt (λ f is. is) h
+load_rejected digest bytes fault h = reported (IsImageFault digest bytes) (IsLoadError digest bytes) fault tt (λ f is. is) h
 
-pub user_refused : (digest : DigestTest) (images : Images) (bytes : List ℕ) (fault : ImageFault) → (fault ≡ image.Memory) ⊎ IsImageFault digest bytes fault → IsLoadUserError digest images bytes (of_image_fault fault)
+pub user_rejected : (digest : DigestTest) (images : Images) (bytes : List ℕ) (fault : ImageFault) → (fault ≡ image.Memory) ⊎ IsImageFault digest bytes fault → IsLoadUserError digest images bytes (of_image_fault fault)
 unfolding IsFaultOf
-user_refused digest images bytes fault h = reported (IsImageFault digest bytes) (IsLoadUserError digest images bytes) fault tt (λ f is. is) h
+user_rejected digest images bytes fault h = reported (IsImageFault digest bytes) (IsLoadUserError digest images bytes) fault tt (λ f is. is) h
 
 add_fault : (digest : DigestTest) (images : Images) (user : List ℕ) (fault : SegmentFault) → IsImage digest user → IsUserMisfit images.system (images.users ++ user ∷ []) fault → IsLoadUserError digest images user fault
 add_fault digest images user (segment.Image f) formed h = absurd h
@@ -53,10 +53,10 @@ add_fault digest images user (segment.NoWord n) formed h = absurd h
 add_fault digest images user segment.Memory formed h = tt
 
 -- an error of adding a user dictionary to the others is an error of adding its image
-pub add_refused : {T : Type 0} (digest : DigestTest) (r : Result T SegmentFault) (images : Images) (user : List ℕ) → IsImage digest user → IfErr r (IsUserMisfit images.system (images.users ++ user ∷ []))
+pub add_rejected : {T : Type 0} (digest : DigestTest) (r : Result T SegmentFault) (images : Images) (user : List ℕ) → IsImage digest user → IfErr r (IsUserMisfit images.system (images.users ++ user ∷ []))
     → IfErr r (IsLoadUserError digest images user)
-add_refused digest (Ok x) images user formed h = tt
-add_refused digest (Err fault) images user formed h = add_fault digest images user fault formed h
+add_rejected digest (Ok x) images user formed h = tt
+add_rejected digest (Err fault) images user formed h = add_fault digest images user fault formed h
 
 -- the error of a user dictionary as a system dictionary is an error of loading its image, and never
 -- out of memory
@@ -74,10 +74,10 @@ alone_fault digest system image segment.BadGrouping same formed h = absurd h
 alone_fault digest system image (segment.NoWord n) same formed h = absurd h
 alone_fault digest system image segment.Memory same formed h = absurd h
 
-pub alone_refused : {T : Type 0} (digest : DigestTest) (r : Result T SegmentFault) (system image : List ℕ) → system ≡ image → IsImage digest image → IfErr r (IsFirstOverlayFault system [])
+pub alone_rejected : {T : Type 0} (digest : DigestTest) (r : Result T SegmentFault) (system image : List ℕ) → system ≡ image → IsImage digest image → IfErr r (IsFirstOverlayFault system [])
     → IfErr r (IsLoadError digest image)
-alone_refused digest (Ok x) system image same formed h = tt
-alone_refused digest (Err fault) system image same formed h = (alone_fault digest system image fault same formed h).0
+alone_rejected digest (Ok x) system image same formed h = tt
+alone_rejected digest (Err fault) system image same formed h = (alone_fault digest system image fault same formed h).0
 
 pub alone_takes_no_memory : {T : Type 0} (digest : DigestTest) (r : Result T SegmentFault) (system image : List ℕ) (P : Type 0) → system ≡ image → IsImage digest image → IfErr r (IsFirstOverlayFault system [])
     → IfErr r (λ fault. fault ≡ segment.Memory → P)

@@ -45,9 +45,9 @@ pub no_overlay : (fault : OverlayFault) → segment.Overlay fault ≡ segment.Me
 no_overlay fault reported = cc
 
 -- so bytes with that error pass the checks of a load with that error
-pub load_starved : (digest : DigestTest) (bytes : List ℕ) (fault : ImageFault) → (fault ≡ image.Memory → ReachKeys digest bytes) → of_image_fault fault ≡ segment.Memory → PassesTestsBeforeKeys digest bytes
+pub load_out_of_memory : (digest : DigestTest) (bytes : List ℕ) (fault : ImageFault) → (fault ≡ image.Memory → ReachKeys digest bytes) → of_image_fault fault ≡ segment.Memory → PassesTestsBeforeKeys digest bytes
 unfolding PassesTestsBeforeKeys
-load_starved digest bytes fault starved reported = starved (is_want fault reported)
+load_out_of_memory digest bytes fault starved reported = starved (is_want fault reported)
 
 -- ---- no check of an image reports out of memory
 
@@ -79,8 +79,8 @@ of_section number e = cc
 of_key : (number : ℕ) → image.BadKey number ≡ image.Memory → ⊥
 of_key number e = cc
 
-front_none : (h : Header) (bytes : List ℕ) → TellNone (prefix_tests h bytes)
-front_none h bytes =
+prefix_none : (h : Header) (bytes : List ℕ) → TellNone (prefix_tests h bytes)
+prefix_none h bytes =
     past image.Truncated (λ (e : image.Truncated ≡ image.Memory). cc)
     (past image.BadMagic (λ (e : image.BadMagic ≡ image.Memory). cc)
     (past (image.BadLayout h.layout) (λ (e : image.BadLayout h.layout ≡ image.Memory). cc) tt))
@@ -126,4 +126,4 @@ no_test_of_memory digest bytes reported =
     let h = header_of bytes in
     let front = prefix_tests h bytes in
     let ends = end_tests digest h bytes in
-    none_first (front ++ (ends ++ section_tests h bytes)) (both front (ends ++ section_tests h bytes) (front_none h bytes) (both ends (section_tests h bytes) (end_none digest h bytes) (section_none h bytes))) reported
+    none_first (front ++ (ends ++ section_tests h bytes)) (both front (ends ++ section_tests h bytes) (prefix_none h bytes) (both ends (section_tests h bytes) (end_none digest h bytes) (section_none h bytes))) reported

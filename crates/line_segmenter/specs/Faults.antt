@@ -1,5 +1,5 @@
--- The errors of a segmenter's calls. A call that allocates may run out of memory. For a text, a
--- path or a word's feature that means that there is no other error, and for an image that its bytes
+-- The errors of a segmenter's calls. A call that allocates may run out of memory. If it does for a
+-- text, a path or a word's feature, there is no other error. If it does for an image, its bytes
 -- passed the checks that don't allocate.
 use Rattle.std.specs.Prelude.{◌≡◌, ℕ, ◌<◌, List, [], ◌∷◌, ◌++◌, length, Some, None, IsSome, Err, slice_get}
 use Rattle.std.specs.Option.{IsSomeAnd}
@@ -22,11 +22,12 @@ use Rattle.line_segmenter.specs.Segmenters.{SegmentedLine, SegmenterState, Image
 unfoldable pub IsImage : DigestTest → List ℕ → Type 0
 IsImage digest image = IsAccepted digest image
 
--- the first error of an image that fails them; proofs don't unfold it
+-- the first error of an image that fails the selected checks; proofs don't unfold it
 unfoldable pub IsFaultOf : DigestTest → List ℕ → ImageFault → Type 0
 IsFaultOf digest image fault = IsImageFault digest image fault
 
--- the image passes the checks before those of its keys, which are the first that allocate
+-- the image passes the checks before those of its keys, which are the first that allocate; proofs
+-- don't unfold it
 unfoldable pub PassesTestsBeforeKeys : DigestTest → List ℕ → Type 0
 PassesTestsBeforeKeys digest image = ReachKeys digest image
 
@@ -46,7 +47,8 @@ abbrev pub IsLineError : List ℕ → SegmentFault → Type 0
 IsLineError line (segment.LineFeed place) = IsFirstByte is_line_feed line (Some place)
 IsLineError line fault = IsOneLine line × IsTextError line fault
 
--- why an image is not loaded as a system dictionary: it is invalid, or a user dictionary
+-- why an image is not loaded as a system dictionary: it is invalid, or a user dictionary, or memory
+-- runs out
 abbrev pub IsLoadError : DigestTest → List ℕ → SegmentFault → Type 0
 IsLoadError digest image segment.Memory = Unit {0}
 IsLoadError digest image (segment.Image fault) = IsFaultOf digest image fault
@@ -58,7 +60,8 @@ abbrev pub IsFirstOverlayFault : List ℕ → List (List ℕ) → SegmentFault �
 IsFirstOverlayFault system users (segment.Overlay fault) = fault_of_images system users ≡ Some fault
 IsFirstOverlayFault system users fault = ⊥
 
--- why an image is not added as a user dictionary: it is invalid, or does not fit the others
+-- why an image is not added as a user dictionary: it is invalid, or does not fit the others, or
+-- memory runs out
 abbrev pub IsLoadUserError : DigestTest → Images → List ℕ → SegmentFault → Type 0
 IsLoadUserError digest images user segment.Memory = Unit {0}
 IsLoadUserError digest images user (segment.Image fault) = IsFaultOf digest user fault
@@ -66,24 +69,25 @@ IsLoadUserError digest images user (segment.Overlay fault) = IsImage digest user
 IsLoadUserError digest images user fault = ⊥
 
 -- why a segmenter does not add a user dictionary: another segmenter shares its dictionaries, or the
--- image is invalid or does not fit
+-- image is invalid or does not fit, or memory runs out
 abbrev pub IsAddUserError : DigestTest → Images → List ℕ → SegmentFault → Type 0
 IsAddUserError digest images user segment.Shared = Unit {0}
 IsAddUserError digest images user fault = IsLoadUserError digest images user fault
 
--- why a user dictionary is not added to the others: the first error of the overlay
+-- why a user dictionary is not added to the others: the first error of the overlay, or memory runs
+-- out
 abbrev pub IsUserMisfit : List ℕ → List (List ℕ) → SegmentFault → Type 0
 IsUserMisfit system users segment.Memory = Unit {0}
 IsUserMisfit system users (segment.Overlay fault) = fault_of_images system users ≡ Some fault
 IsUserMisfit system users fault = ⊥
 
--- why texts are not set as the format
+-- why texts are not set as the format: they are invalid, or memory runs out
 abbrev pub IsSetFormatError : FormatTexts → SegmentFault → Type 0
 IsSetFormatError texts segment.Memory = Unit {0}
 IsSetFormatError texts (segment.Format fault) = IsFormat texts (Err fault)
 IsSetFormatError texts fault = ⊥
 
--- why a number is not set as the grouping
+-- why a number is not set as the grouping: it is too great
 abbrev pub IsGroupingError : ℕ → SegmentFault → Type 0
 IsGroupingError grouping segment.BadGrouping = GROUPING_MAX < grouping
 IsGroupingError grouping fault = ⊥

@@ -1,4 +1,4 @@
--- The last line of a segmenter, as contracts see it.
+-- The last line of a segmenter, as contracts describe it.
 use Rattle.std.specs.Prelude.{ℕ, Bool, if◌then◌else◌, List, Option, Some, None}
 use Rattle.std.specs.Borrow.{Bor}
 use Rattle.mj_model.specs.declared.paths.path.Path.{Path}

@@ -15,7 +15,7 @@ use Rattle.line_segmenter.specs.declared.path_end.PathEnd.{PathEnd}
 abbrev pub at_bos : PathEnd
 at_bos = record { right = 0; total = pos 0 }
 
--- the end of a path extended by a word
+-- the end of a path that ends with `before`, extended by word w
 abbrev pub path_end_after : Overlay → PathEnd → Word → PathEnd
 path_end_after o before w = record { right = w.right; total = cost_with_word o before.right before.total w }
 

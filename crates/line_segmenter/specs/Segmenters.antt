@@ -42,11 +42,11 @@ pub record SegmenterState : Type 0 where
   pub format : Format
   pub segmented : Option SegmentedLine
 
--- the overlay of the images
+-- the overlay of the images, with this grouping
 abbrev pub overlay_with : Images → ℕ → Overlay
 overlay_with images grouping = record { system = image_tables images.system; users = map image_tables images.users; grouping = grouping }
 
--- the overlay of the images; proofs don't unfold it
+-- the overlay of the images, with this grouping; proofs don't unfold it
 unfoldable pub overlay_in : Images → ℕ → Overlay
 overlay_in images grouping = overlay_with images grouping
 

@@ -16,13 +16,13 @@ use thiserror::Error;
 /// from 0.
 #[derive(Clone, Copy, Debug, PartialEq, Eq, Drop, Error)]
 pub enum SegmentFault {
-    /// The image of a dictionary is invalid. `Memory` reports an allocation failure while it is
-    /// loaded.
+    /// The image of a dictionary is invalid. An allocation failure while it is loaded is
+    /// `SegmentFault::Memory`.
     Image(ImageFault),
     /// The dictionary does not fit the others: a wrong kind, or other sizes.
     Overlay(OverlayFault),
-    /// The texts are not a valid format. `Memory` reports an allocation failure while they are
-    /// parsed.
+    /// The texts are not a valid format. An allocation failure while they are parsed is
+    /// `SegmentFault::Memory`.
     Format(FormatFault),
     /// The text is not UTF-8.
     NotUtf8,
@@ -30,8 +30,8 @@ pub enum SegmentFault {
     TooLong,
     /// The line contains an LF. The number is the offset of the first one.
     LineFeed(usize),
-    /// No text was segmented since the segmenter was created, or since its dictionaries or its
-    /// grouping changed.
+    /// There is no last line: none was segmented since the segmenter was created, since
+    /// `parse_lines`, or since its dictionaries or its grouping changed.
     NothingSegmented,
     /// Another segmenter shares the dictionaries.
     Shared,
@@ -118,7 +118,7 @@ impl From<OverlayFault> for SegmentFault {
 impl From<AllocError> for SegmentFault {
     ghost from_gives = { λ _ fault. fault ≡ Memory };
 
-    fn from(_refused: AllocError) -> SegmentFault {
+    fn from(_error: AllocError) -> SegmentFault {
         SegmentFault::Memory
     }
 }
@@ -140,7 +140,7 @@ impl Display for SegmentFault {
 impl<T: Drop> From<AllocFailed<T>> for SegmentFault {
     ghost from_gives = { λ _ fault. fault ≡ Memory };
 
-    fn from(_refused: AllocFailed<T>) -> SegmentFault {
+    fn from(_error: AllocFailed<T>) -> SegmentFault {
         SegmentFault::Memory
     }
 }

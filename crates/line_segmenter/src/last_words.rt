@@ -18,7 +18,7 @@ pub struct LastWords<'a> {
 }
 
 impl<'a> LastWords<'a> {
-    /// Returns the number of the first category of a word's first character, in the order of
+    /// Returns the number of the first category of the first character of `word`, in the order of
     /// `char.def`.
     pub fn category(&self, word: &Word) -> u8
         requires { IsTrue (is_place self.now.text.now word.now.start) }

@@ -1,14 +1,15 @@
 //! A segmenter in a process: owns its dictionaries, its format and the buffers of the search.
 //!
-//! Use `Segmenter` to segment many lines. It reuses its buffers, and keeps the last line and its
-//! best path until the next call that segments: words, costs, features and the lattice are asked
-//! for afterwards. Its format serves `print` and `parse_lines`. Segmenters on different threads may
-//! share dictionaries, see `Segmenter::share`. The crate `capi` exports it to C.
+//! Use `Segmenter` to segment many lines. It reuses its buffers, and keeps the last line with its
+//! best path, from which it returns words, costs, features and the lattice. The next line replaces
+//! them. `parse_lines` removes them, and so does a change of the dictionaries or of the grouping.
+//! Its format serves `print` and `parse_lines`. Segmenters on different threads may share
+//! dictionaries, see `Segmenter::share`. The crate `capi` exports it to C.
 //!
 //! Example:
 //!
 //! ```text
-//! let mut segmenter = Segmenter::load(alloc, image, DigestTest::Made)?;
+//! let mut segmenter = Segmenter::load(alloc, image, DigestTest::Verified)?;
 //! segmenter.append_feature(0, &mut out)   // Err(SegmentFault::NothingSegmented)
 //! segmenter.segment("すもももも".as_bytes())?;
 //! segmenter.append_feature(2, &mut out)   // Err(SegmentFault::NoWord(2)), the path has two words

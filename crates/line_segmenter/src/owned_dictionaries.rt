@@ -5,7 +5,7 @@ ghost use Rattle.line_segmenter.specs.Segmenters.{FitOver, overlay_in, with_user
 ghost use Rattle.line_segmenter.specs.Faults.{IsUserMisfit, IsImage, IsLoadUserError, IsLoadError, IsFirstOverlayFault, PassesTestsBeforeKeys};
 ghost use Rattle.line_segmenter.specs.declared.fault.SegmentFault.TheVariants.{Memory};
 ghost use Rattle.line_segmenter.specs.Trusted.{IsTrusted};
-ghost use Rattle.image_format.specs.declared.digest_test.DigestTest.TheVariants.{Made};
+ghost use Rattle.image_format.specs.declared.digest_test.DigestTest.TheVariants.{Verified};
 ghost use Rattle.mj_model.specs.declared.limits.TheConstants.{GROUPING_MAX};
 ghost use Rattle.word_lookup.specs.Overlays.{fault_of_images, overlay_of};
 
@@ -52,14 +52,14 @@ impl OwnedDictionaries {
         OwnedDictionaries::alone(alloc, load_image_bytes(alloc, image, digest)?)
     }
 
-    /// Loads an intact image of a system dictionary, without user dictionaries. Checks only its
-    /// kind and sizes.
+    /// Loads the image of a system dictionary, without user dictionaries. It must be intact and of
+    /// the newest layout, and only its kind is checked.
     pub fn load_trusted(alloc: Global, image: ImageBytes) -> Result<OwnedDictionaries, SegmentFault>
         requires { IsTrusted image }
         ensures loaded { IfOk result (λ d. d ≡ record { system = image; users = [] }) }
-        ensures accepted { OnOk result (IsImage Made image) }
+        ensures accepted { OnOk result (IsImage Verified image) }
         ensures fits { OnOk result (fault_of_images image [] ≡ None) }
-        ensures rejected { IfErr result (IsLoadError Made image) }
+        ensures rejected { IfErr result (IsLoadError Verified image) }
     {
         OwnedDictionaries::alone(alloc, load_trusted(alloc, image)?)
     }
@@ -105,15 +105,15 @@ impl OwnedDictionaries {
         add_checked(&self.system, &mut self.users, user)
     }
 
-    /// Adds an intact image of a user dictionary after the others. Checks only whether it fits
-    /// them.
+    /// Adds the image of a user dictionary after the others. It must be intact and of the newest
+    /// layout, and only its fit with the others is checked.
     pub fn add_trusted(&mut self, alloc: Global, image: ImageBytes) -> Result<(), SegmentFault>
         requires { IsTrusted image }
         ensures added { OnOk result (self.new ≡ with_user self.old image) }
-        ensures accepted { OnOk result (IsImage Made image) }
+        ensures accepted { OnOk result (IsImage Verified image) }
         ensures fits { OnOk result
             (fault_of_images self.old.system (self.old.users ++ image ∷ []) ≡ None) }
-        ensures rejected { IfErr result (IsLoadUserError Made self.old image) }
+        ensures rejected { IfErr result (IsLoadUserError Verified self.old image) }
         ensures unchanged { OnErr result (self.new ≡ self.old) }
     {
         let user = load_trusted(alloc, image)?;

@@ -17,7 +17,7 @@ pub struct PathEnd {
 }
 
 impl LastWords<'_> {
-    /// Returns the end of the path extended by `word`.
+    /// Returns the end of a path that ends with `before`, extended by `word`.
     pub fn path_end_after(&self, before: PathEnd, word: &Word) -> PathEnd
         requires { CanFollow (overlay_of self.now.dictionaries) before word.now }
         ensures { result ≡ path_end_after (overlay_of self.now.dictionaries) before word.now }

@@ -5,7 +5,7 @@ ghost use Rattle.line_segmenter.specs.Segmenters.{FitTogether, IsLoaded, IsNew, 
 ghost use Rattle.line_segmenter.specs.Faults.{IsSetFormatError, IsGroupingError, IsImage, IsLoadError, IsAddUserError, PassesTestsBeforeKeys};
 ghost use Rattle.line_segmenter.specs.declared.fault.SegmentFault.TheVariants.{Memory};
 ghost use Rattle.line_segmenter.specs.Trusted.{IsTrusted};
-ghost use Rattle.image_format.specs.declared.digest_test.DigestTest.TheVariants.{Made};
+ghost use Rattle.image_format.specs.declared.digest_test.DigestTest.TheVariants.{Verified};
 ghost use Rattle.mj_model.specs.declared.limits.TheConstants.{GROUPING_MAX as GroupingMax};
 ghost use Rattle.out_format.specs.Formats.{ReadsFormat};
 ghost use Rattle.out_format.specs.Texts.{texts_of};
@@ -78,14 +78,14 @@ impl Segmenter {
         Ok(Segmenter::over(alloc, OwnedDictionaries::load(alloc, image, digest)?)?)
     }
 
-    /// Returns a segmenter with an intact image of a system dictionary. Does what `load` does,
-    /// without the checks of the image.
+    /// Returns a segmenter with the image of a system dictionary, which must be intact and of the
+    /// newest layout. Does what `load` does, without the checks of the image.
     pub fn load_trusted(alloc: Global, image: ImageBytes) -> Result<Segmenter, SegmentFault>
         requires { IsTrusted image }
         ensures loaded { IfOk result (IsLoaded image) }
-        ensures accepted { OnOk result (IsImage Made image) }
+        ensures accepted { OnOk result (IsImage Verified image) }
         ensures fits { OnOk result (fault_of_images image [] ≡ None) }
-        ensures rejected { IfErr result (IsLoadError Made image) }
+        ensures rejected { IfErr result (IsLoadError Verified image) }
     {
         Ok(Segmenter::over(alloc, OwnedDictionaries::load_trusted(alloc, image)?)?)
     }
@@ -106,7 +106,7 @@ impl Segmenter {
     }
 
     /// Returns another segmenter, for another thread for example, that shares dictionaries and
-    /// format. Neither is copied.
+    /// format. Neither is copied. It has the same grouping, and no last line.
     pub fn share(&self) -> Result<Segmenter, AllocError>
         ensures { IfOk result (λ other. other ≡ record self.now { segmented = None }) }
     {
@@ -119,8 +119,11 @@ impl Segmenter {
         })
     }
 
-    /// Loads the image of a user dictionary and adds it after the others. Fails with `Shared` if
-    /// another segmenter shares the dictionaries. The last line is removed.
+    /// Loads the image of a user dictionary, adds it after the others, and removes the last line.
+    ///
+    /// `digest` selects whether the checksum is verified. Fails with `Shared` if another segmenter
+    /// shares the dictionaries, with `Image` if the image is invalid, and with `Overlay` if it does
+    /// not fit the others.
     pub fn add_user(&mut self, image: ImageBytes, digest: DigestTest) -> Result<(), SegmentFault>
         ensures added { OnOk result (self.new ≡ with_added self.old image) }
         ensures accepted { OnOk result (IsImage digest image) }
@@ -138,14 +141,14 @@ impl Segmenter {
         Ok(())
     }
 
-    /// Adds an intact image of a user dictionary. Does what `add_user` does, without the checks of
-    /// the image.
+    /// Adds the image of a user dictionary, which must be intact and of the newest layout. Does
+    /// what `add_user` does, without the checks of the image.
     pub fn add_trusted_user(&mut self, image: ImageBytes) -> Result<(), SegmentFault>
         requires { IsTrusted image }
         ensures added { OnOk result (self.new ≡ with_added self.old image) }
-        ensures accepted { OnOk result (IsImage Made image) }
+        ensures accepted { OnOk result (IsImage Verified image) }
         ensures fits { OnOk result (FitTogether self.new.images) }
-        ensures rejected { IfErr result (IsAddUserError Made self.old.images image) }
+        ensures rejected { IfErr result (IsAddUserError Verified self.old.images image) }
         ensures unchanged { OnErr result (self.new ≡ self.old) }
     {
         let Some(dictionaries) = Arc::get_mut(&mut self.dictionaries) else {
@@ -156,8 +159,10 @@ impl Segmenter {
         Ok(())
     }
 
-    /// Sets the format of `print` by its four texts. Unknown words use `node` if `unk` is `None`.
-    /// The last line stays.
+    /// Sets the format of `print` and `parse_lines` by the texts of MeCab's node, unknown word, BOS
+    /// and EOS formats. Unknown words use `node` if `unk` is `None`. The last line stays.
+    ///
+    /// Fails with `Format` if a text is invalid.
     pub fn set_format(
         &mut self,
         node: &str,
@@ -178,7 +183,7 @@ impl Segmenter {
     }
 
     /// Sets the number of characters that may follow the first one of a grouped unknown word, at
-    /// most `GROUPING_MAX`. The last line is removed.
+    /// most `GROUPING_MAX`, and removes the last line.
     pub fn set_grouping(&mut self, grouping: u16) -> Result<(), SegmentFault>
         ensures set { OnOk result
             (self.new ≡ record self.old { grouping = grouping; segmented = None }) }

@@ -1,4 +1,5 @@
-//! Segments lines and texts, and returns words, costs and features of the last one.
+//! Segments lines and texts, and returns words, costs and features of the last one. The methods
+//! that read the last one fail with `NothingSegmented` if there is none.
 
 ghost use Rattle.std.specs.Prelude.{◌≡◌, ◌+◌, ◌<◌, ◌≤◌, ◌++◌, length, vec_capacity, vec_len, Some, Err, IfOk, IfErr, OnOk, OnErr};
 ghost use Rattle.line_segmenter.specs.Segmenters.{GrowsByFeature, HasCategory, FeatureExceedsCapacity, IsSegmentedOver, IsLatticeOfLastLine, OfLastLine, PrintsLastLine, overlay_of_state};
@@ -24,8 +25,8 @@ use mj_model::{Origin, Word};
 use out_format::print;
 
 impl Segmenter {
-    /// Segments `line`, which must not contain an LF, into the words of its best path. On an error
-    /// the last line stays.
+    /// Segments `line`, which must not contain an LF, into the words of its best path. Fails with
+    /// `LineFeed`, `TooLong`, `NotUtf8` or `Memory`; the last line then stays.
     pub fn segment(&mut self, line: &[u8]) -> Result<(), SegmentFault>
         ensures best { OnOk result (OfLastLine self.new (λ c. c.text ≡ line.now)) }
         ensures others { self.new ≡ record self.old { segmented = self.new.segmented } }
@@ -40,8 +41,8 @@ impl Segmenter {
         self.segment_whole(line)
     }
 
-    /// Segments `text` as one line. An LF in it is a character like any other. On an error the last
-    /// line stays.
+    /// Segments `text` as one line. An LF in it is a character like any other. Fails with
+    /// `TooLong`, `NotUtf8` or `Memory`; the last line then stays.
     pub fn segment_whole(&mut self, text: &[u8]) -> Result<(), SegmentFault>
         ensures best { OnOk result (OfLastLine self.new (λ c. c.text ≡ text.now)) }
         ensures others { self.new ≡ record self.old { segmented = self.new.segmented } }
@@ -175,7 +176,7 @@ impl Segmenter {
         Ok(category_at(&dictionaries, text, word.start))
     }
 
-    /// Appends the text of the last path in the format.
+    /// Appends the output of the last path in the segmenter's format.
     pub fn print(&self, out: &mut Vec<u8>) -> Result<(), SegmentFault>
         ensures appended { OnOk result
             (OfLastLine self.now

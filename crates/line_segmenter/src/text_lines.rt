@@ -1,11 +1,7 @@
 //! Segments and prints the lines of a text.
 
 ghost use Rattle.std.specs.Prelude.{◌≡◌, None, IfOk, IfErr};
-ghost use Rattle.line_segmenter.specs.TextLines.{AppendsLines, AppendsUpTo};
-ghost use Rattle.line_segmenter.specs.Segmenters.{overlay_of_state};
-ghost use Rattle.mj_model.specs.Lists.{GrowsBy};
-ghost use Rattle.mj_model.specs.Output.{text_lines};
-ghost use Rattle.out_format.specs.Segmentation.{IsSegmentation};
+ghost use Rattle.line_segmenter.specs.TextLines.{AppendsLines, AppendsSegmentation, AppendsUpTo};
 
 use crate::fault::SegmentFault;
 use crate::segmenter::Segmenter;
@@ -24,12 +20,12 @@ impl Segmenter {
     /// Segments each line of `text` and appends its output in the format, up to the first error.
     /// Returns the number of lines.
     ///
-    /// A line ends at an LF. The final LF may be missing. Afterwards no line is kept.
+    /// A line ends at an LF. The final LF may be missing. Afterwards there is no last line.
     pub fn parse_lines(&mut self, text: &[u8], out: &mut Vec<u8>) -> Result<u64, LinesFault>
-        // If the result is Ok, all lines are valid, and the segmentation of the text was appended:
-        // for each line the formatted words of its best path.
-        ensures ok { IfOk result (λ _. GrowsBy (IsSegmentation (overlay_of_state self.old)
-            self.old.format (text_lines text.now)) out.old.items out.new.items) }
+        // If the result is Ok, it is the number of lines, all lines are valid, and the segmentation
+        // of the text was appended: for each line the formatted words of its best path.
+        ensures ok { IfOk result
+            (AppendsSegmentation self.old text.now out.old.items out.new.items) }
         ensures printed { IfOk result (AppendsLines self.old text.now out.old.items out.new.items) }
         ensures stopped { IfErr result (AppendsUpTo self.old text.now out.old.items out.new.items) }
         ensures cleared { self.new ≡ record self.old { segmented = None } }

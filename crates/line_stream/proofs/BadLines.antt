@@ -11,9 +11,9 @@ not_good line TooLong bad good = let short = good.0 in absurd (omega (arith, sho
 not_good line NotUtf8 bad good = bad.1 good.1
 
 -- if the two errors of a line are reported, the error of any invalid line is
-pub bad_told : (Reports : List ℕ → Result (List ℕ) LineFault → Type 0)
+pub bad_reported : (Reports : List ℕ → Result (List ℕ) LineFault → Type 0)
     → ((line : List ℕ) → SENTENCE_MAX < length line → Reports line (Err TooLong))
     → ((line : List ℕ) → IsBad line NotUtf8 → Reports line (Err NotUtf8))
     → (line : List ℕ) (fault : LineFault) → IsBad line fault → Reports line (Err fault)
-bad_told Reports long no_text line TooLong bad = long line bad
-bad_told Reports long no_text line NotUtf8 bad = no_text line bad
+bad_reported Reports long no_text line TooLong bad = long line bad
+bad_reported Reports long no_text line NotUtf8 bad = no_text line bad

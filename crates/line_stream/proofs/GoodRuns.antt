@@ -27,9 +27,9 @@ use Rattle.line_stream.proofs.RunWork.{text_lines-parts, open_no_feed}
 
 -- ---- parts of a list of good lines
 
-front_all : (P : List ℕ → Type 0) (xs ys : List (List ℕ)) → All P (xs ++ ys) → All P xs
-front_all P [] ys h = All-nil P
-front_all P (x ∷ xs) ys h = All-cons P x xs (All-head P x (xs ++ ys) h) (front_all P xs ys (All-tail P x (xs ++ ys) h))
+prefix_all : (P : List ℕ → Type 0) (xs ys : List (List ℕ)) → All P (xs ++ ys) → All P xs
+prefix_all P [] ys h = All-nil P
+prefix_all P (x ∷ xs) ys h = All-cons P x xs (All-head P x (xs ++ ys) h) (prefix_all P xs ys (All-tail P x (xs ++ ys) h))
 
 back_all : (P : List ℕ → Type 0) (xs ys : List (List ℕ)) → All P (xs ++ ys) → All P ys
 back_all P [] ys h = h
@@ -72,9 +72,9 @@ first_kept : (P : List ℕ → Type 0) (c : ℕ) (cs : List ℕ) (more : List (L
 first_kept P c cs [] h = All-head P (c ∷ cs) [] h
 first_kept P c cs (next ∷ more) h = All-head P (c ∷ cs) (without_last_empty (next ∷ more)) h
 
-front_short : (front rest : List ℕ) → HasNoFeed front → All IsGood (text_lines (front ++ rest)) → length front ≤ SENTENCE_MAX
-front_short [] rest none good = omega arith
-front_short (c ∷ cs) rest none good =
+prefix_short : (front rest : List ℕ) → HasNoFeed front → All IsGood (text_lines (front ++ rest)) → length front ≤ SENTENCE_MAX
+prefix_short [] rest none good = omega arith
+prefix_short (c ∷ cs) rest none good =
     let next = goes_on (c ∷ cs) rest none in
     let first = first_kept IsGood c (cs ++ next.first) next.more (subst (λ ps. All IsGood (without_last_empty ps)) next.is good) in
     let short = first.0 in
@@ -83,12 +83,12 @@ front_short (c ∷ cs) rest none good =
 
 -- no line of what is read of a valid text is too long
 open_short : (bytes rest : List ℕ) → All IsGood (text_lines (bytes ++ rest)) → length (unfinished_line bytes) ≤ SENTENCE_MAX
-open_short bytes rest good = front_short (unfinished_line bytes) rest (open_no_feed bytes)
+open_short bytes rest good = prefix_short (unfinished_line bytes) rest (open_no_feed bytes)
     (back_all IsGood (complete_lines bytes) (text_lines (unfinished_line bytes ++ rest)) (subst (λ ls. All IsGood ls) (text_lines-following bytes rest) good))
 
 whole_good : (bytes rest : List ℕ) → All IsGood (text_lines (bytes ++ rest)) → All IsGood (complete_lines bytes)
 whole_good bytes rest good =
-    front_all IsGood (complete_lines bytes) (text_lines (unfinished_line bytes ++ rest)) (subst (λ ls. All IsGood ls) (text_lines-following bytes rest) good)
+    prefix_all IsGood (complete_lines bytes) (text_lines (unfinished_line bytes ++ rest)) (subst (λ ls. All IsGood ls) (text_lines-following bytes rest) good)
 
 read_good : (ended : Bool) (bytes rest : List ℕ) → (ended ≡ true → rest ≡ []) → All IsGood (text_lines (bytes ++ rest)) → All IsGood (lines_read ended bytes)
 read_good true bytes rest none good = subst (λ bs. All IsGood (text_lines bs)) (ap (λ r. bytes ++ r) (none refl) ∙ append-nil bytes) good

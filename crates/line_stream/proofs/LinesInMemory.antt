@@ -17,7 +17,7 @@ use Rattle.line_stream.specs.StreamState.{AllPrint, HasNoFeed, IsPrinted}
 use Rattle.line_stream.specs.Steps.{last_line}
 use Rattle.line_stream.proofs.PieceLemmas.{complete_lines-none, unfinished_line-none, complete_lines-split_at_feed, unfinished_line-split_at_feed}
 use Rattle.line_stream.proofs.PieceWork.{no_feed_before, no_feed_at_all}
-use Rattle.line_stream.proofs.PrintedAfter.{bad_behind, print_append, print_one}
+use Rattle.line_stream.proofs.PrintedAfter.{bad_after, print_append, print_one}
 use Rattle.line_stream.proofs.RunWork.{text_lines-parts}
 
 -- ---- the lines of a text with an LF, and of one without
@@ -78,7 +78,7 @@ module _ (Reports : List ℕ → Result (List ℕ) LineFault → Type 0) where
           → (error ≡ Memory → IsGood line) → StopsAt Reports text number error p.shown
       stops_at number (Bad fault) is reports good =
           subst (λ ls. Output Reports 1 ls p.shown (Some (record { number = number; fault = fault }))) (sym parts_next)
-          (bad_behind Reports 1 p.done (text_lines following) p.shown line fault number p.printed reports (omega (arith, is, p.counted)))
+          (bad_after Reports 1 p.done (text_lines following) p.shown line fault number p.printed reports (omega (arith, is, p.counted)))
       stops_at number Memory is reports good =
           record {
             before = p.done;

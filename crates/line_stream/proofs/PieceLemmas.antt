@@ -27,11 +27,11 @@ split_cons (c ∷ cs) = split_step (is_line_feed c) c (slice_split is_line_feed 
 
 -- ---- lists of parts, after others
 
-pub last_behind : (xs : List ℕ) (xss : List (List ℕ)) → IsCons xss → last_piece (xs ∷ xss) ≡ last_piece xss
-last_behind xs xss c = ap (λ z. last_piece (xs ∷ z)) c.is ∙ sym (ap last_piece c.is)
+pub last_after : (xs : List ℕ) (xss : List (List ℕ)) → IsCons xss → last_piece (xs ∷ xss) ≡ last_piece xss
+last_after xs xss c = ap (λ z. last_piece (xs ∷ z)) c.is ∙ sym (ap last_piece c.is)
 
-whole_behind : (xs : List ℕ) (xss : List (List ℕ)) → IsCons xss → all_but_last (xs ∷ xss) ≡ xs ∷ all_but_last xss
-whole_behind xs xss c = ap (λ z. all_but_last (xs ∷ z)) c.is ∙ sym (ap (λ z. xs ∷ all_but_last z) c.is)
+whole_after : (xs : List ℕ) (xss : List (List ℕ)) → IsCons xss → all_but_last (xs ∷ xss) ≡ xs ∷ all_but_last xss
+whole_after xs xss c = ap (λ z. all_but_last (xs ∷ z)) c.is ∙ sym (ap (λ z. xs ∷ all_but_last z) c.is)
 
 append_cons : (xss yss : List (List ℕ)) → IsCons yss → IsCons (xss ++ yss)
 append_cons [] yss c = c
@@ -39,11 +39,11 @@ append_cons (xs ∷ xss) yss c = record { first = xs; more = xss ++ yss; is = re
 
 whole-append : (xss yss : List (List ℕ)) → IsCons yss → all_but_last (xss ++ yss) ≡ xss ++ all_but_last yss
 whole-append [] yss c = refl
-whole-append (xs ∷ xss) yss c = whole_behind xs (xss ++ yss) (append_cons xss yss c) ∙ ap (λ z. xs ∷ z) (whole-append xss yss c)
+whole-append (xs ∷ xss) yss c = whole_after xs (xss ++ yss) (append_cons xss yss c) ∙ ap (λ z. xs ∷ z) (whole-append xss yss c)
 
 last-append : (xss yss : List (List ℕ)) → IsCons yss → last_piece (xss ++ yss) ≡ last_piece yss
 last-append [] yss c = refl
-last-append (xs ∷ xss) yss c = last_behind xs (xss ++ yss) (append_cons xss yss c) ∙ last-append xss yss c
+last-append (xs ∷ xss) yss c = last_after xs (xss ++ yss) (append_cons xss yss c) ∙ last-append xss yss c
 
 -- ---- a split of two parts: the complete lines of the first, and then the split of its unfinished
 -- line with the second
@@ -52,8 +52,8 @@ glued : (b : Bool) (c : ℕ) (ys : List ℕ) (xss : List (List ℕ)) → IsCons 
     → cond b ([] ∷ (all_but_last xss ++ slice_split is_line_feed (last_piece xss ++ ys))) (onto_first c (all_but_last xss ++ slice_split is_line_feed (last_piece xss ++ ys)))
     ≡ all_but_last (cond b ([] ∷ xss) (onto_first c xss)) ++ slice_split is_line_feed (last_piece (cond b ([] ∷ xss) (onto_first c xss)) ++ ys)
 glued true c ys xss n e =
-    ap (λ z. [] ∷ (all_but_last xss ++ slice_split is_line_feed (z ++ ys))) (sym (last_behind [] xss n))
-    ∙ ap (λ z. z ++ slice_split is_line_feed (last_piece ([] ∷ xss) ++ ys)) (sym (whole_behind [] xss n))
+    ap (λ z. [] ∷ (all_but_last xss ++ slice_split is_line_feed (z ++ ys))) (sym (last_after [] xss n))
+    ∙ ap (λ z. z ++ slice_split is_line_feed (last_piece ([] ∷ xss) ++ ys)) (sym (whole_after [] xss n))
 glued false c ys [] n e = absurd (cc)
 glued false c ys (xs ∷ []) n e = ap (λ b. cond b ([] ∷ slice_split is_line_feed (xs ++ ys)) (onto_first c (slice_split is_line_feed (xs ++ ys)))) (sym e)
 glued false c ys (xs ∷ next ∷ more) n e = refl
@@ -80,7 +80,7 @@ pub unfinished_line-none : (xs : List ℕ) → HasNoFeed xs → unfinished_line 
 unfinished_line-none xs h = ap last_piece (slice_split_none is_line_feed xs h)
 
 pub complete_lines-split_at_feed : (xs : List ℕ) (c : ℕ) (ys : List ℕ) → HasNoFeed xs → is_line_feed c ≡ true → complete_lines (xs ++ c ∷ ys) ≡ xs ∷ complete_lines ys
-complete_lines-split_at_feed xs c ys h e = ap all_but_last (slice_split_at is_line_feed xs c ys h e) ∙ whole_behind xs (slice_split is_line_feed ys) (split_cons ys)
+complete_lines-split_at_feed xs c ys h e = ap all_but_last (slice_split_at is_line_feed xs c ys h e) ∙ whole_after xs (slice_split is_line_feed ys) (split_cons ys)
 
 pub unfinished_line-split_at_feed : (xs : List ℕ) (c : ℕ) (ys : List ℕ) → HasNoFeed xs → is_line_feed c ≡ true → unfinished_line (xs ++ c ∷ ys) ≡ unfinished_line ys
-unfinished_line-split_at_feed xs c ys h e = ap last_piece (slice_split_at is_line_feed xs c ys h e) ∙ last_behind xs (slice_split is_line_feed ys) (split_cons ys)
+unfinished_line-split_at_feed xs c ys h e = ap last_piece (slice_split_at is_line_feed xs c ys h e) ∙ last_after xs (slice_split is_line_feed ys) (split_cons ys)

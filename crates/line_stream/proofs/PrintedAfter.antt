@@ -20,9 +20,9 @@ module _ (Reports : List ℕ → Result (List ℕ) LineFault → Type 0) where
         ap (λ (t : List ℕ). t ++ b) h.4 ∙ append_assoc h.0 h.1 b,
       )
 
-  pub bad_behind : (n : ℕ) (done more : List (List ℕ)) (text bad : List ℕ) (fault : LineFault) (line : ℕ) → AllPrint Reports n done text
+  pub bad_after : (n : ℕ) (done more : List (List ℕ)) (text bad : List ℕ) (fault : LineFault) (line : ℕ) → AllPrint Reports n done text
       → Reports bad (Err fault) → line ≡ n + length done → Output Reports n (done ++ bad ∷ more) text (Some (record { number = line; fault = fault }))
-  bad_behind n done more text bad fault line h judged e =
+  bad_after n done more text bad fault line h judged e =
       subst (λ t. Output Reports n (done ++ bad ∷ more) t (Some (record { number = line; fault = fault }))) (append-nil text)
       (print_append n done (bad ∷ more) text [] (Some (record { number = line; fault = fault })) h
       (inl (fault, judged, refl, ap (λ m. Some (record { number = m; fault = fault })) e)))

@@ -13,7 +13,7 @@ on_ok_by (Err e) P Q f p = tt
 
 -- if one outcome appends and the other leaves the list unchanged, the old list is a prefix of the
 -- new one
-pub front_kept : {T E : Type 0} (r : Result T E) (Is : List ℕ → Type 0) (n : ℕ) (old new : List ℕ) → n ≡ length old
+pub prefix_kept : {T E : Type 0} (r : Result T E) (Is : List ℕ → Type 0) (n : ℕ) (old new : List ℕ) → n ≡ length old
     → OnOk r ((more : List ℕ) × Is more × (new ≡ old ++ more)) → OnErr r (new ≡ old) → take n new ≡ old
-front_kept (Ok x) Is n old new long grown same = ap (take n) grown.2 ∙ take_at old grown.0 n (sym long)
-front_kept (Err e) Is n old new long grown same = ap (take n) same ∙ take_all n old (omega (arith, long))
+prefix_kept (Ok x) Is n old new long grown same = ap (take n) grown.2 ∙ take_at old grown.0 n (sym long)
+prefix_kept (Err e) Is n old new long grown same = ap (take n) same ∙ take_all n old (omega (arith, long))

@@ -19,7 +19,7 @@ use Rattle.line_stream.specs.Steps.{Stepped, StepStopped, EndStopped, last_line,
 use Rattle.line_stream.specs.Runs.{RunState, NoEmptyRead, NoFailure, NoFlush, FlushesLast, OutOfMemory, IsBad, RunEnding, StoppedAfter, ProcessedAll, StreamOutcome, run_state, has_ended, lines_read}
 use Rattle.line_stream.proofs.PieceLemmas.{unfinished_line-append}
 use Rattle.line_stream.proofs.RunWork.{Running, last_there, next_on, print_on, turn_step, whole_on, text_lines-parts}
-use Rattle.line_stream.proofs.PrintedAfter.{bad_behind}
+use Rattle.line_stream.proofs.PrintedAfter.{bad_after}
 
 -- (A ++ (D ++ M)) ++ T is (A ++ D) ++ (M ++ T)
 regroup : {X : Type 0} (us ds ms ts : List X) → (us ++ (ds ++ ms)) ++ ts ≡ (us ++ ds) ++ (ms ++ ts)
@@ -87,8 +87,8 @@ module _ (Reports : List ℕ → Result (List ℕ) LineFault → Type 0) (bound 
         (worked_through r.bytes [] [] (sym (append-nil r.bytes)) (omega arith))
 
     -- no read met the end, and the unfinished line is not too long yet
-    stopped_behind : (line : ℕ) → line ≡ lines + 1 → after.ends ≡ now.ends → StoppedAfter Reports r.bytes r.written before after line
-    stopped_behind line e ends =
+    stopped_after : (line : ℕ) → line ≡ lines + 1 → after.ends ≡ now.ends → StoppedAfter Reports r.bytes r.written before after line
+    stopped_after line e ends =
         record {
           no_end = ends ∙ r.ends;
           printed = r.print;
@@ -108,7 +108,7 @@ module _ (Reports : List ℕ → Result (List ℕ) LineFault → Type 0) (bound 
       no_empty_read = omega (arith, reads, r.reads, r.gave, one_read, r.read_failures);
       worked = all_worked;
       ends = (
-        stopped_behind line e ends,
+        stopped_after line e ends,
         record { one_read = omega (arith, one_read, r.read_failures); no_write = no_write ∙ r.write_failures },
         no_flush ∙ r.flushes,
       );
@@ -206,10 +206,10 @@ module _ (Reports : List ℕ → Result (List ℕ) LineFault → Type 0) (bound 
       printed_on : (done : List (List ℕ)) (text : List ℕ) → AllPrint Reports (lines + 1) done text → AllPrint Reports 1 (complete_lines r.bytes ++ done) (r.written ++ text)
       printed_on done text print = print_on Reports r.bytes pending r.written text lines r.print r.open_is r.counted done None print
 
-      starved_run : (bytes : List ℕ) (all : List (List ℕ)) (written : List ℕ) (done more : List (List ℕ)) (line : ℕ) → all ≡ (complete_lines r.bytes ++ done) ++ more
+      out_of_memory_run : (bytes : List ℕ) (all : List (List ℕ)) (written : List ℕ) (done more : List (List ℕ)) (line : ℕ) → all ≡ (complete_lines r.bytes ++ done) ++ more
           → AllPrint Reports (lines + 1) done written → line ≡ lines + length done + 1 → HasNext bytes (complete_lines r.bytes ++ done)
           → OutOfMemory Reports bytes all (r.written ++ written) line
-      starved_run bytes all written done more line first print e next =
+      out_of_memory_run bytes all written done more line first print e next =
           let number = number_is done line e in
           record {
             lines = complete_lines r.bytes ++ done;
@@ -225,7 +225,7 @@ module _ (Reports : List ℕ → Result (List ℕ) LineFault → Type 0) (bound 
           → line ≡ lines + length done + 1 → IsBad Reports all (r.written ++ written) line fault
       bad_run all written done more bad fault line parts print judged e =
           subst (λ ls. IsBad Reports ls (r.written ++ written) line fault) (sym parts)
-          (bad_behind Reports 1 (complete_lines r.bytes ++ done) more (r.written ++ written) bad fault line (printed_on done written print) judged (number_is done line e))
+          (bad_after Reports 1 (complete_lines r.bytes ++ done) more (r.written ++ written) bad fault line (printed_on done written print) judged (number_is done line e))
 
       -- the line is invalid among the complete lines, and so among all
       bad_ends : (bytes written : List ℕ) (fault : LineFault) (line : ℕ) → IsBad Reports (text_lines bytes) written line fault
@@ -240,7 +240,7 @@ module _ (Reports : List ℕ → Result (List ℕ) LineFault → Type 0) (bound 
           → AllPrint Reports (lines + 1) done written → IsCause Reports (pending ++ piece) done error → line ≡ lines + length done + 1
           → RunEnding Reports bound (r.bytes ++ piece) (r.written ++ written) before after (Err (stream.Line line error))
       work_error piece written done Memory line ends no_write no_flush print cause e = (
-        starved_run (r.bytes ++ piece) (lines_read (has_ended before after) (r.bytes ++ piece)) written done cause.0 line (lines_of_work piece done cause.0 ends cause.1) print e
+        out_of_memory_run (r.bytes ++ piece) (lines_read (has_ended before after) (r.bytes ++ piece)) written done cause.0 line (lines_of_work piece done cause.0 ends cause.1) print e
             (next_on r.bytes piece pending done r.open_is cause.2),
         none_failed no_write,
         unflushed no_flush,
@@ -296,7 +296,7 @@ module _ (Reports : List ℕ → Result (List ℕ) LineFault → Type 0) (bound 
       finish_error written done Memory line ends no_write no_flush print cause e =
           let first = lines_of_all ends ∙ lines_at_end done (last_line pending) (ap (λ d. d ++ last_line pending) (sym cause.none_before)) in
           let parts = lines_at_end done (pending ∷ []) (cause.there ∙ ap (λ d. d ++ pending ∷ []) (sym cause.none_before)) in (
-            starved_run r.bytes (lines_read (has_ended before after) r.bytes) written done (last_line pending) line first print e (pending, [], parts, cause.reports),
+            out_of_memory_run r.bytes (lines_read (has_ended before after) r.bytes) written done (last_line pending) line first print e (pending, [], parts, cause.reports),
             none_failed no_write,
             unflushed no_flush,
           )

@@ -15,7 +15,7 @@ use Rattle.line_stream.specs.StreamState.{HasNext, HasNoFeed, AllPrint}
 use Rattle.line_stream.specs.Steps.{Step, Stepped, last_line}
 use Rattle.line_stream.specs.Runs.{RunState}
 use Rattle.line_stream.proofs.PrintedAfter.{print_append}
-use Rattle.line_stream.proofs.PieceLemmas.{IsCons, split_cons, last_behind, complete_lines-append, unfinished_line-append}
+use Rattle.line_stream.proofs.PieceLemmas.{IsCons, split_cons, last_after, complete_lines-append, unfinished_line-append}
 
 -- ---- the lines of a text: the complete ones, and the unfinished one if it is not empty
 
@@ -42,7 +42,7 @@ no_feed_cons c cs e h = All-append (λ d. is_line_feed d ≡ false) (c ∷ []) c
 
 last_step : (b : Bool) (c : ℕ) (xss : List (List ℕ)) → IsCons xss → is_line_feed c ≡ b → HasNoFeed (last_piece xss)
     → HasNoFeed (last_piece (cond b ([] ∷ xss) (onto_first c xss)))
-last_step true c xss n e h = subst HasNoFeed (sym (last_behind [] xss n)) h
+last_step true c xss n e h = subst HasNoFeed (sym (last_after [] xss n)) h
 last_step false c [] n e h = absurd (let is = n.is in cc)
 last_step false c (xs ∷ []) n e h = no_feed_cons c xs e h
 last_step false c (xs ∷ next ∷ more) n e h = h

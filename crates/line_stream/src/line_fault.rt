@@ -28,7 +28,7 @@ pub enum LineError {
 impl From<AllocError> for LineError {
     ghost from_gives = { λ _ error. error ≡ Memory };
 
-    fn from(_refused: AllocError) -> LineError {
+    fn from(_error: AllocError) -> LineError {
         LineError::Memory
     }
 }

@@ -66,7 +66,7 @@ fn process_line<P: LinePrinter, W: TextOut>(
 
 /// Prints the lines that end in `piece` and writes their output. The bytes after the last LF stay
 /// in `progress.pending`.
-pub fn work<P: LinePrinter, W: TextOut>(
+pub fn process_piece<P: LinePrinter, W: TextOut>(
     printer: &P,
     kept: &mut P::Buffers,
     piece: &[u8],

@@ -5,7 +5,7 @@ ghost use Rattle.line_stream.specs.Runs.{MayRun, StreamOutcome};
 
 use crate::line_fault::{LineError, StreamFault};
 use crate::line_printer::LinePrinter;
-use crate::piece::work;
+use crate::piece::process_piece;
 use crate::steps::finish;
 use crate::stream_state::StreamState;
 use mj_model::{TextIn, TextOut};
@@ -42,7 +42,7 @@ fn print_lines<P: LinePrinter, R: TextIn, W: TextOut>(
             Ok(n) => n,
             Err(_) => return Err(StreamFault::Read(progress.lines + 1)),
         };
-        work(
+        process_piece(
             printer,
             kept,
             &buffer[..taken],

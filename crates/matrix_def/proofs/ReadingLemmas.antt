@@ -25,7 +25,7 @@ use Rattle.matrix_def.specs.declared.reader_state.ReaderState.TheVariants.{Heade
 use Rattle.matrix_def.specs.Headers.{IsNoHeader}
 use Rattle.matrix_def.specs.Reading.{Fill, HasNoFeed, HasRead, ReaderView, IsStateAfter, row_of, reported_connection, reported_lines, reported_number}
 use Rattle.matrix_def.specs.Rows.{IsRow}
-use Rattle.matrix_def.proofs.NumberLemmas.{told_line}
+use Rattle.matrix_def.proofs.NumberLemmas.{reported_line}
 use Rattle.matrix_def.proofs.RowLemmas.{row_bad, row_filled}
 
 -- ---- lines
@@ -99,7 +99,7 @@ enumerate-append {X = X} n m (x ∷ xs) ys is = ap (λ (rest : List (ℕ × X)).
 
 reported-append : (n m : ℕ) (xs ys : List (List ℕ)) → m ≡ n + length xs → reported_lines n (xs ++ ys) ≡ reported_lines n xs ++ reported_lines m ys
 reported-append n m xs ys is =
-    ap (map told_line) (enumerate-append n m xs ys is) ∙ map-append told_line (enumerate_from n xs) (enumerate_from m ys)
+    ap (map reported_line) (enumerate-append n m xs ys is) ∙ map-append reported_line (enumerate_from n xs) (enumerate_from m ys)
 
 -- the lines that are not blank, and the following ones
 filled-append : (n m : ℕ) (xs ys : List (List ℕ)) → m ≡ n + length xs → nonblank_lines (reported_lines n (xs ++ ys)) ≡ nonblank_lines (reported_lines n xs) ++ nonblank_lines (reported_lines m ys)
@@ -107,9 +107,9 @@ filled-append n m xs ys is =
     ap nonblank_lines (reported-append n m xs ys is) ∙ filter-append (λ (line : ℕ × List ℕ). not (is_blank_line line.1)) (reported_lines n xs) (reported_lines m ys)
 
 -- bytes without a line feed are one line, with its reported number
-told_row : (n number : ℕ) (bytes : List ℕ) → HasNoFeed bytes → number ≡ reported_number n → nonblank_lines (reported_lines n (source_lines bytes)) ≡ row_of number bytes
-told_row n number [] none is = refl
-told_row n number (c ∷ cs) none is =
+reported_row : (n number : ℕ) (bytes : List ℕ) → HasNoFeed bytes → number ≡ reported_number n → nonblank_lines (reported_lines n (source_lines bytes)) ≡ row_of number bytes
+reported_row n number [] none is = refl
+reported_row n number (c ∷ cs) none is =
     let w : List ℕ = without_return (c ∷ cs) in
     ap (λ (lines : List (List ℕ)). nonblank_lines (reported_lines n lines)) (last_line (c ∷ cs) w [] (omega arith) none refl refl)
     ∙ ap (λ (k : ℕ). nonblank_lines ((k, w) ∷ [])) (sym is) ∙ sym (row_is number (c ∷ cs) none)
@@ -133,9 +133,9 @@ fill_more lines m new number line cell f r is formed =
     })
 
 -- an invalid row after them
-pub fill_refused : (lines : List (ℕ × List ℕ)) (m : CostTable) (number : ℕ) (line : List ℕ) (kind : SourceKind) → Fill lines m → row_fault m.sizes line ≡ Some kind
+pub fill_rejected : (lines : List (ℕ × List ℕ)) (m : CostTable) (number : ℕ) (line : List ℕ) (kind : SourceKind) → Fill lines m → row_fault m.sizes line ≡ Some kind
     → (more : List (ℕ × List ℕ)) → connection_from ((lines ++ (number, line) ∷ []) ++ more) ≡ Err (record { file = 0; line = number; kind = kind })
-fill_refused lines m number line kind f bad more =
+fill_rejected lines m number line kind f bad more =
     let row : ℕ × List ℕ = (number, line) in
     let rest : List (ℕ × List ℕ) = f.rows ++ row ∷ more in
     let joined : (lines ++ row ∷ []) ++ more ≡ f.header ∷ rest = append_assoc lines (row ∷ []) more ∙ ap (λ (ls : List (ℕ × List ℕ)). ls ++ row ∷ more) f.parts in
@@ -152,7 +152,7 @@ lines_read : (bytes : List ℕ) (number : ℕ) (r : ReaderView) (h : HasRead byt
 lines_read bytes number r h number_is =
     ap (λ (bs : List ℕ). nonblank_lines (reported_lines 1 (source_lines bs))) h.parts ∙ ap (λ (ls : List (List ℕ)). nonblank_lines (reported_lines 1 ls)) (h.cut r.unfinished)
     ∙ filled-append 1 (1 + length h.lines) h.lines (source_lines r.unfinished) refl
-    ∙ ap (λ (rows : List (ℕ × List ℕ)). nonblank_lines (reported_lines 1 h.lines) ++ rows) (told_row (1 + length h.lines) number r.unfinished h.unended (omega (arith, number_is, h.counted)))
+    ∙ ap (λ (rows : List (ℕ × List ℕ)). nonblank_lines (reported_lines 1 h.lines) ++ rows) (reported_row (1 + length h.lines) number r.unfinished h.unended (omega (arith, number_is, h.counted)))
 
 -- the state with the unfinished line, if no more follows
 pub all_read : (bytes line : List ℕ) (number : ℕ) (r : ReaderView) (new : ReaderState) → HasRead bytes r → number ≡ reported_number (r.complete_lines + 1) → line ≡ r.unfinished
@@ -254,9 +254,9 @@ start_some [] none = let no : true ≡ false = (none []).0 in absurd (cc)
 start_some (c ∷ cs) none = omega arith
 
 -- the unfinished line is no header: the file is rejected for it, whatever follows
-pub header_refused : (bytes : List ℕ) (number : ℕ) (r : ReaderView) → HasRead bytes r → r.state ≡ Header → number ≡ reported_number (r.complete_lines + 1) → IsNoHeader r.unfinished
+pub header_rejected : (bytes : List ℕ) (number : ℕ) (r : ReaderView) → HasRead bytes r → r.state ≡ Header → number ≡ reported_number (r.complete_lines + 1) → IsNoHeader r.unfinished
     → (more : List ℕ) → reported_connection (bytes ++ more) ≡ Err (record { file = 0; line = number; kind = BadHeader })
-header_refused bytes number r h state number_is refused more =
+header_rejected bytes number r h state number_is refused more =
     let first = first_line r.unfinished more h.unended (start_some r.unfinished refused) in
     let w : List ℕ = without_return (r.unfinished ++ first.part) in
     let n : ℕ = 1 + length h.lines in

@@ -10,7 +10,7 @@ use Rattle.std.proofs.lemmas.List.Folds.{list_any-append, list_any_at}
 use Rattle.std.proofs.lemmas.List.Sums.{fold-append}
 use Rattle.mj_model.specs.Bytes.{is_blank, minus, plus}
 use Rattle.mj_model.specs.Numbers.{context_id, digits_value, number, signed_number, unsigned_number}
-use Rattle.lex_source.proofs.SplitLemmas.{blanks_behind}
+use Rattle.lex_source.proofs.SplitLemmas.{blanks_after}
 use Rattle.matrix_def.specs.Headers.{HasNoBlank, IsNoSize}
 
 -- an id, as a number with a sign
@@ -32,7 +32,7 @@ no_blank_at word k plain in' = elim (cases_Bool (is_blank (get_or word k 0))) [
 plain_number : (word : List ℕ) → HasNoBlank word → number word ≡ signed_number word
 plain_number word plain =
     let all : take (length word) word ≡ word = take_all (length word) word (omega arith) in
-    ap signed_number (sym (blanks_behind word (length word) (omega arith) (λ k low high. absurd (omega arith)) (λ some. no_blank_at word (length word - 1) plain (omega arith))) ∙ all)
+    ap signed_number (sym (blanks_after word (length word) (omega arith) (λ k low high. absurd (omega arith)) (λ some. no_blank_at word (length word - 1) plain (omega arith))) ∙ all)
 
 plain-append : (word more : List ℕ) → HasNoBlank word → HasNoBlank more → HasNoBlank (word ++ more)
 plain-append word more before following = list_any-append is_blank word more ∙ or_from (list_any is_blank word) (list_any is_blank more) before following

@@ -66,6 +66,8 @@ impl Matrix {
         &self.costs
     }
 
+    /// Sets the cost of connecting a word with right id `right` to a following word with left id
+    /// `left`.
     pub(crate) fn set(&mut self, right: u16, left: u16, cost: i16)
         requires { IsTrue (is_pair self.old.sizes right left) }
         ensures value { self.new

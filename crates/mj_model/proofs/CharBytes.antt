@@ -61,8 +61,8 @@ following n cs =
     ∙ drop_at (encode_utf8_all (take n cs)) (encode_utf8_all (drop n cs)) (bytes_of n cs) refl
 
 -- valid UTF-8 follows them
-pub text_behind : (text : List ℕ) (n : ℕ) → IsUtf8 text → IsUtf8 (drop (bytes_of n (chars text)) text)
-text_behind text n u = (
+pub text_after : (text : List ℕ) (n : ℕ) → IsUtf8 text → IsUtf8 (drop (bytes_of n (chars text)) text)
+text_after text n u = (
   drop n (chars text),
   (
     scalars_drop n (chars text) (scalars-chars text u),
@@ -70,8 +70,8 @@ text_behind text n u = (
   ),
 )
 
-pub chars_behind : (text : List ℕ) (n : ℕ) → IsUtf8 text → chars (drop (bytes_of n (chars text)) text) ≡ drop n (chars text)
-chars_behind text n u =
+pub chars_after : (text : List ℕ) (n : ℕ) → IsUtf8 text → chars (drop (bytes_of n (chars text)) text) ≡ drop n (chars text)
+chars_after text n u =
     ap (λ (bytes : List ℕ). chars (drop (bytes_of n (chars text)) bytes)) (sym (encodes-chars text u)) ∙ ap chars (following n (chars text))
     ∙ chars-encodes (drop n (chars text)) (scalars_drop n (chars text) (scalars-chars text u))
 
@@ -103,7 +103,7 @@ alike_within info first cs = let e = length-take (prefix_len (λ c. shares (info
 -- ---- blanks
 
 -- valid UTF-8 follows the blanks at a position
-pub text_behind_blanks : (o : Overlay) (text : List ℕ) (p : ℕ) → IsUtf8 (drop p text) → IsUtf8 (drop (skip o text p) text)
-text_behind_blanks o text p u =
+pub text_after_blanks : (o : Overlay) (text : List ℕ) (p : ℕ) → IsUtf8 (drop p text) → IsUtf8 (drop (skip o text p) text)
+text_after_blanks o text p u =
     let n = run o.system.info (o.system.info space) (chars_from text p) in
-    subst IsUtf8 (drop-drop (bytes_of n (chars_from text p)) p text) (text_behind (drop p text) n u)
+    subst IsUtf8 (drop-drop (bytes_of n (chars_from text p)) p text) (text_after (drop p text) n u)

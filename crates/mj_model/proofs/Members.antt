@@ -73,9 +73,9 @@ pub each_holds : {X : Type 0} (P : X → Type 0) (xs : List X) → ((x : X) → 
 each_holds P [] h = tt
 each_holds P (x ∷ xs) h = (h x (inl refl), each_holds P xs (λ y i. h y (inr i)))
 
-pub none_stands : {X : Type 0} (xs : List X) → ((x : X) → IsMember xs x → ⊥) → xs ≡ []
-none_stands [] h = refl
-none_stands (x ∷ xs) h = absurd (h x (inl refl))
+pub none_appears : {X : Type 0} (xs : List X) → ((x : X) → IsMember xs x → ⊥) → xs ≡ []
+none_appears [] h = refl
+none_appears (x ∷ xs) h = absurd (h x (inl refl))
 
 pub holds_in : {X : Type 0} (P : X → Type 0) (xs : List X) (x : X) → AllByRecursion P xs → IsMember xs x → P x
 holds_in P [] x a h = absurd h

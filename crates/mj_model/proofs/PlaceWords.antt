@@ -17,7 +17,7 @@ use Rattle.mj_model.specs.Words.{is_empty, unknown, is_place, words}
 use Rattle.mj_model.specs.Lists.{IsMember, AreDistinct}
 use Rattle.mj_model.specs.Laws.{HasWords, KeepsPlaces}
 use Rattle.mj_model.proofs.Members.{in_from_Contains, in_append, holds_in, one_position, apart_append}
-use Rattle.mj_model.proofs.CharBytes.{bytes_more, text_behind, chars_within, text_behind_blanks}
+use Rattle.mj_model.proofs.CharBytes.{bytes_more, text_after, chars_within, text_after_blanks}
 use Rattle.mj_model.proofs.KnownMembers.{IsKnownFrom, in_known_from, known_ends, known_origin, apart_known_from}
 use Rattle.mj_model.proofs.UnknownMembers.{IsUnknown, in_unknown, apart_unknown}
 
@@ -54,7 +54,7 @@ unknown_spans place start text z u k = record {
   place_is = ap (λ (w : Word). w.place) k.is;
   start_is = ap (λ (w : Word). w.start) k.is;
   end_is = ap (λ (w : Word). w.end) k.is;
-  following = text_behind text k.n u;
+  following = text_after text k.n u;
 }
 
 -- ---- each word at a position
@@ -101,7 +101,7 @@ in_words_by o text p false has e z h = absurd h
 in_words_by o text p true has e z h =
     let start = skip o text p in
     let at_p = is_open o text p e in
-    let u = text_behind_blanks o text p at_p.begins in
+    let u = text_after_blanks o text p at_p.begins in
     elim (in_append (known_words o text p) (unknown o (is_empty (known_words o text p)) p start (chars_from text start)) z h) [
       | inl i ↦ word_at o text p z at_p (known_spans p start (drop start text) (lexicons o) z u has.surfaces (in_known_from p start (drop start text) 0 (lexicons o) z i))
       | inr j ↦ word_at o text p z at_p (unknown_spans p start (drop start text) z u (in_unknown o (is_empty (known_words o text p)) p start (chars_from text start) z j))

@@ -8,7 +8,7 @@ use Rattle.std.proofs.lemmas.Str.{is_utf8-from_IsUtf8, IsUtf8-from_is_utf8}
 use Rattle.mj_model.specs.declared.source_fault.SourceFault.{SourceFault}
 use Rattle.mj_model.specs.declared.source_fault.SourceKind.TheVariants.{NotUtf8, TooFewFields}
 use Rattle.mj_model.specs.Fields.{without_leading_blanks, IsFirstField, AreFields, AreFirstFields}
-use Rattle.mj_model.specs.Lexicon.{Parts, Outcome, Blank, Refused, IsOutcome, AreOutcomes, first_rejected, Reading, reading_unless, ReadsAs}
+use Rattle.mj_model.specs.Lexicon.{Parts, Outcome, Blank, Rejected, IsOutcome, AreOutcomes, first_rejected, Reading, reading_unless, ReadsAs}
 use Rattle.mj_model.specs.Lines.{numbered_lines, is_blank_line}
 use Rattle.mj_model.proofs.FieldLemmas.{a_field, one_field}
 
@@ -24,13 +24,13 @@ no_rest : (line f g next : List ℕ) → IsFirstField line f None → IsFirstFie
 no_rest line f g next h k = let e = (one_first line f g None (Some next) h k).1 in cc
 
 -- as many first fields are the same, and so is what follows them
-one_front : (line : List ℕ) (fs gs : List (List ℕ)) (rest other : List ℕ) → length fs ≡ length gs → AreFirstFields line fs rest → AreFirstFields line gs other → (fs ≡ gs) × (rest ≡ other)
-one_front line [] [] rest other e h k = (refl, h ∙ sym k)
-one_front line [] (g ∷ gs) rest other e h k = absurd (omega (arith, e))
-one_front line (f ∷ fs) [] rest other e h k = absurd (omega (arith, e))
-one_front line (f ∷ fs) (g ∷ gs) rest other e h k =
+one_prefix : (line : List ℕ) (fs gs : List (List ℕ)) (rest other : List ℕ) → length fs ≡ length gs → AreFirstFields line fs rest → AreFirstFields line gs other → (fs ≡ gs) × (rest ≡ other)
+one_prefix line [] [] rest other e h k = (refl, h ∙ sym k)
+one_prefix line [] (g ∷ gs) rest other e h k = absurd (omega (arith, e))
+one_prefix line (f ∷ fs) [] rest other e h k = absurd (omega (arith, e))
+one_prefix line (f ∷ fs) (g ∷ gs) rest other e h k =
     let p = some_rest line f g h.0 k.0 h.1 k.1 in
-    let q = one_front k.0 fs gs rest other (omega (arith, e)) (subst (λ n. AreFirstFields n fs rest) p.1 h.2) k.2 in
+    let q = one_prefix k.0 fs gs rest other (omega (arith, e)) (subst (λ n. AreFirstFields n fs rest) p.1 h.2) k.2 in
     (ap (λ x. x ∷ fs) p.0 ∙ ap (λ xs. g ∷ xs) q.0, q.1)
 
 -- a line with as many first fields and a remainder has more fields than that
@@ -77,8 +77,8 @@ same_parts p q h = λ i. record {
   feature = h.1 i;
 }
 
-module _ (judge : ℕ → Parts → Outcome) where
-  one_outcome : (number : ℕ) (line : List ℕ) (o p : Outcome) → IsOutcome judge number line o → IsOutcome judge number line p → o ≡ p
+module _ (outcome_from : ℕ → Parts → Outcome) where
+  one_outcome : (number : ℕ) (line : List ℕ) (o p : Outcome) → IsOutcome outcome_from number line o → IsOutcome outcome_from number line p → o ≡ p
   one_outcome number line o p (IsOutcome.is_blank b) (IsOutcome.is_blank c) = refl
   one_outcome number line o p (IsOutcome.is_blank b) (IsOutcome.not_text c n) = absurd (cc)
   one_outcome number line o p (IsOutcome.is_blank b) (IsOutcome.too_few c u fields a few) = absurd (cc)
@@ -95,9 +95,9 @@ module _ (judge : ℕ → Parts → Outcome) where
   one_outcome number line o p (IsOutcome.has_parts b u parts a) (IsOutcome.not_text c n) = absurd (n u)
   one_outcome number line o p (IsOutcome.has_parts b u parts a) (IsOutcome.too_few c v fields k few) = absurd (more_fields line fields (four parts) parts.feature k a few)
   one_outcome number line o p (IsOutcome.has_parts b u parts a) (IsOutcome.has_parts c v others k) =
-      ap (judge number) (same_parts parts others (one_front line (four parts) (four others) parts.feature others.feature refl a k))
+      ap (outcome_from number) (same_parts parts others (one_prefix line (four parts) (four others) parts.feature others.feature refl a k))
 
-  outcomes_are_one : (lines : List (ℕ × List ℕ)) (os ps : List Outcome) → AreOutcomes judge lines os → AreOutcomes judge lines ps → os ≡ ps
+  outcomes_are_one : (lines : List (ℕ × List ℕ)) (os ps : List Outcome) → AreOutcomes outcome_from lines os → AreOutcomes outcome_from lines ps → os ≡ ps
   outcomes_are_one [] [] [] h k = refl
   outcomes_are_one [] [] (p ∷ ps) h k = absurd k
   outcomes_are_one [] (o ∷ os) ps h k = absurd h
@@ -106,7 +106,7 @@ module _ (judge : ℕ → Parts → Outcome) where
   outcomes_are_one (line ∷ lines) (o ∷ os) (p ∷ ps) h k =
       ap (λ x. x ∷ os) (one_outcome line.0 line.1 o p h.0 k.0) ∙ ap (λ xs. p ∷ xs) (outcomes_are_one lines os ps h.1 k.1)
 
-  pub readings_are_one : (file held : ℕ) (bytes : List ℕ) (reading other : Result Reading SourceFault) → ReadsAs judge file held bytes reading → ReadsAs judge file held bytes other → other ≡ reading
+  pub readings_are_one : (file held : ℕ) (bytes : List ℕ) (reading other : Result Reading SourceFault) → ReadsAs outcome_from file held bytes reading → ReadsAs outcome_from file held bytes other → other ≡ reading
   readings_are_one file held bytes reading other h k =
       let same = outcomes_are_one (numbered_lines bytes) h.0 k.0 h.1 k.1 in
       k.2 ∙ sym (ap (λ os. reading_unless (first_rejected file 1 held os) os) same) ∙ sym h.2
@@ -114,41 +114,41 @@ module _ (judge : ℕ → Parts → Outcome) where
   -- ---- each line has an outcome
 
   with_four : (number : ℕ) (line a b c d : List ℕ) (next after third : List ℕ) (rest : Option (List ℕ)) → is_blank_line line ≡ false → IsUtf8 line
-      → IsFirstField line a (Some next) → IsFirstField next b (Some after) → IsFirstField after c (Some third) → IsFirstField third d rest → (o : Outcome) × IsOutcome judge number line o
+      → IsFirstField line a (Some next) → IsFirstField next b (Some after) → IsFirstField after c (Some third) → IsFirstField third d rest → (o : Outcome) × IsOutcome outcome_from number line o
   with_four number line a b c d next after third None some utf8 h k l m =
-      (Refused TooFewFields, IsOutcome.too_few some utf8 (a ∷ b ∷ c ∷ d ∷ []) (next, h, (after, k, (third, l, m))) (omega arith))
+      (Rejected TooFewFields, IsOutcome.too_few some utf8 (a ∷ b ∷ c ∷ d ∷ []) (next, h, (after, k, (third, l, m))) (omega arith))
   with_four number line a b c d next after third (Some feature) some utf8 h k l m =
       let parts : Parts = record { surface = a; left = b; right = c; cost = d; feature = feature } in
-      (judge number parts, IsOutcome.has_parts some utf8 parts (next, h, (after, k, (third, l, (feature, m, refl)))))
+      (outcome_from number parts, IsOutcome.has_parts some utf8 parts (next, h, (after, k, (third, l, (feature, m, refl)))))
 
   with_three : (number : ℕ) (line a b c : List ℕ) (next after : List ℕ) (rest : Option (List ℕ)) → is_blank_line line ≡ false → IsUtf8 line
-      → IsFirstField line a (Some next) → IsFirstField next b (Some after) → IsFirstField after c rest → (o : Outcome) × IsOutcome judge number line o
-  with_three number line a b c next after None some utf8 h k l = (Refused TooFewFields, IsOutcome.too_few some utf8 (a ∷ b ∷ c ∷ []) (next, h, (after, k, l)) (omega arith))
+      → IsFirstField line a (Some next) → IsFirstField next b (Some after) → IsFirstField after c rest → (o : Outcome) × IsOutcome outcome_from number line o
+  with_three number line a b c next after None some utf8 h k l = (Rejected TooFewFields, IsOutcome.too_few some utf8 (a ∷ b ∷ c ∷ []) (next, h, (after, k, l)) (omega arith))
   with_three number line a b c next after (Some third) some utf8 h k l =
       let d = a_field (without_leading_blanks third) in with_four number line a b c d.0 next after third d.1 some utf8 h k l d.2
 
   with_two : (number : ℕ) (line a b : List ℕ) (next : List ℕ) (rest : Option (List ℕ)) → is_blank_line line ≡ false → IsUtf8 line
-      → IsFirstField line a (Some next) → IsFirstField next b rest → (o : Outcome) × IsOutcome judge number line o
-  with_two number line a b next None some utf8 h k = (Refused TooFewFields, IsOutcome.too_few some utf8 (a ∷ b ∷ []) (next, h, k) (omega arith))
+      → IsFirstField line a (Some next) → IsFirstField next b rest → (o : Outcome) × IsOutcome outcome_from number line o
+  with_two number line a b next None some utf8 h k = (Rejected TooFewFields, IsOutcome.too_few some utf8 (a ∷ b ∷ []) (next, h, k) (omega arith))
   with_two number line a b next (Some after) some utf8 h k =
       let c = a_field (without_leading_blanks after) in with_three number line a b c.0 next after c.1 some utf8 h k c.2
 
-  with_one : (number : ℕ) (line a : List ℕ) (rest : Option (List ℕ)) → is_blank_line line ≡ false → IsUtf8 line → IsFirstField line a rest → (o : Outcome) × IsOutcome judge number line o
-  with_one number line a None some utf8 h = (Refused TooFewFields, IsOutcome.too_few some utf8 (a ∷ []) h (omega arith))
+  with_one : (number : ℕ) (line a : List ℕ) (rest : Option (List ℕ)) → is_blank_line line ≡ false → IsUtf8 line → IsFirstField line a rest → (o : Outcome) × IsOutcome outcome_from number line o
+  with_one number line a None some utf8 h = (Rejected TooFewFields, IsOutcome.too_few some utf8 (a ∷ []) h (omega arith))
   with_one number line a (Some next) some utf8 h = let b = a_field (without_leading_blanks next) in with_two number line a b.0 next b.1 some utf8 h b.2
 
-  an_outcome : (number : ℕ) (line : List ℕ) → (o : Outcome) × IsOutcome judge number line o
+  an_outcome : (number : ℕ) (line : List ℕ) → (o : Outcome) × IsOutcome outcome_from number line o
   an_outcome number line = elim (cases_Bool (is_blank_line line)) [
     | inl blank ↦ (Blank, IsOutcome.is_blank blank)
     | inr some ↦ elim (cases_Bool (is_utf8 line)) [
       | inl text ↦ let a = a_field (without_leading_blanks line) in with_one number line a.0 a.1 some (IsUtf8-from_is_utf8 line text) a.2
-      | inr no_text ↦ (Refused NotUtf8, IsOutcome.not_text some (λ utf8. let e = is_utf8-from_IsUtf8 line utf8 in cc))
+      | inr no_text ↦ (Rejected NotUtf8, IsOutcome.not_text some (λ utf8. let e = is_utf8-from_IsUtf8 line utf8 in cc))
     ]
   ]
 
-  some_outcomes : (lines : List (ℕ × List ℕ)) → (os : List Outcome) × AreOutcomes judge lines os
+  some_outcomes : (lines : List (ℕ × List ℕ)) → (os : List Outcome) × AreOutcomes outcome_from lines os
   some_outcomes [] = ([], tt)
   some_outcomes (line ∷ lines) = let o = an_outcome line.0 line.1 in let more = some_outcomes lines in (o.0 ∷ more.0, (o.1, more.1))
 
-  pub a_reading : (file held : ℕ) (bytes : List ℕ) → (reading : Result Reading SourceFault) × ReadsAs judge file held bytes reading
+  pub a_reading : (file held : ℕ) (bytes : List ℕ) → (reading : Result Reading SourceFault) × ReadsAs outcome_from file held bytes reading
   a_reading file held bytes = let os = some_outcomes (numbered_lines bytes) in (reading_unless (first_rejected file 1 held os.0) os.0, (os.0, os.1, refl))

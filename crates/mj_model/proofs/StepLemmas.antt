@@ -93,9 +93,9 @@ end_step cells state b z are at named holds =
 
 -- ---- the value of a base
 
-pub told_value : (z : ℤ) (v : ℕ) → z ≡ negsuc v → SFits w32 z → nat_abs (to_z w32 (of_z w32 (pos 0 -ℤ to_z w32 (of_z w32 (to_z w32 (of_z w32 z) +ℤ pos 1))))) ≡ v
-told_value z v e fits = grind (arith, ints)
+pub reported_value : (z : ℤ) (v : ℕ) → z ≡ negsuc v → SFits w32 z → nat_abs (to_z w32 (of_z w32 (pos 0 -ℤ to_z w32 (of_z w32 (to_z w32 (of_z w32 z) +ℤ pos 1))))) ≡ v
+reported_value z v e fits = grind (arith, ints)
 
-pub told_value_fits : (z : ℤ) (v : ℕ) → z ≡ negsuc v → SFits w32 z
+pub reported_value_fits : (z : ℤ) (v : ℕ) → z ≡ negsuc v → SFits w32 z
     → T (non_neg (to_z w32 (of_z w32 (pos 0 -ℤ to_z w32 (of_z w32 (to_z w32 (of_z w32 z) +ℤ pos 1)))))) × Fits w32 (nat_abs (to_z w32 (of_z w32 (pos 0 -ℤ to_z w32 (of_z w32 (to_z w32 (of_z w32 z) +ℤ pos 1))))))
-told_value_fits z v e fits = grind (arith, ints)
+reported_value_fits z v e fits = grind (arith, ints)

@@ -18,7 +18,7 @@ use Rattle.mj_model.specs.UnknownSpans.{grouped_span, length_spans, one_if_none,
 use Rattle.mj_model.specs.Words.{is_empty, unknown_word, unknown, is_place, words}
 use Rattle.mj_model.specs.Paths.{IsChain, IsPath}
 use Rattle.mj_model.specs.Laws.{HasWords, CoversAll, between, joined_words}
-use Rattle.mj_model.proofs.CharBytes.{chars_within, chars_there, is_code_point, text_behind_blanks}
+use Rattle.mj_model.proofs.CharBytes.{chars_within, chars_there, is_code_point, text_after_blanks}
 use Rattle.mj_model.proofs.PlaceWords.{in_words, place_there}
 
 -- ---- there is a word if something other than blanks follows
@@ -65,7 +65,7 @@ pub words_there : (o : Overlay) (text : List ℕ) (p : ℕ) → CoversAll o → 
 words_there o text p covers low u less =
     let start = skip o text p in
     let rest = length-drop start text in
-    let following = text_behind_blanks o text p u in
+    let following = text_after_blanks o text p u in
     let there = chars_there (drop start text) following (omega (arith, rest, less)) in
     let is : (is_place text p && nat_lt start (length text)) ≡ true = and_from (is_place text p) (nat_lt start (length text)) (place_there text p low u) (lt-ltb start (length text) less) in
     subst (λ (b : Bool). 0 < length (cond b (known_words o text p ++ unknown o (is_empty (known_words o text p)) p start (chars_from text start)) [])) (sym is)

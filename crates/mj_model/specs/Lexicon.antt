@@ -47,31 +47,31 @@ row_from line parts =
 pub data Outcome : Type 0 where
   Blank : Outcome
   Skipped : Outcome
-  Refused : SourceKind → Outcome
+  Rejected : SourceKind → Outcome
   Accepted : Row → Outcome
 
 abbrev pub accept_short : Option Row → Outcome
-accept_short None = Refused BadNumber
-accept_short (Some row) = if nat_le (length row.surface) SURFACE_MAX then Accepted row else Refused SurfaceTooLong
+accept_short None = Rejected BadNumber
+accept_short (Some row) = if nat_le (length row.surface) SURFACE_MAX then Accepted row else Rejected SurfaceTooLong
 
 -- the outcome of a lexicon line with four fields and a remainder
 abbrev pub lexicon_outcome : ℕ → Parts → Outcome
 lexicon_outcome line parts = if length parts.surface == 0 then Skipped else accept_short (row_from line parts)
 
--- the outcome of a numbered line, if `judge` maps its parts to an outcome
-pub data IsOutcome (judge : ℕ → Parts → Outcome) (number : ℕ) (line : List ℕ) : Outcome → Type 0 where
-  is_blank : IsTrue (is_blank_line line) → IsOutcome judge number line Blank
-  not_text : IsFalse (is_blank_line line) → (IsUtf8 line → ⊥) → IsOutcome judge number line (Refused NotUtf8)
-  too_few : IsFalse (is_blank_line line) → IsUtf8 line → (fields : List (List ℕ)) → AreFields line fields → length fields ≤ 4 → IsOutcome judge number line (Refused TooFewFields)
+-- the outcome of a numbered line, if `outcome_from` maps its parts to an outcome
+pub data IsOutcome (outcome_from : ℕ → Parts → Outcome) (number : ℕ) (line : List ℕ) : Outcome → Type 0 where
+  is_blank : IsTrue (is_blank_line line) → IsOutcome outcome_from number line Blank
+  not_text : IsFalse (is_blank_line line) → (IsUtf8 line → ⊥) → IsOutcome outcome_from number line (Rejected NotUtf8)
+  too_few : IsFalse (is_blank_line line) → IsUtf8 line → (fields : List (List ℕ)) → AreFields line fields → length fields ≤ 4 → IsOutcome outcome_from number line (Rejected TooFewFields)
   has_parts : IsFalse (is_blank_line line) → IsUtf8 line → (parts : Parts)
-      → AreFirstFields line (parts.surface ∷ parts.left ∷ parts.right ∷ parts.cost ∷ []) parts.feature → IsOutcome judge number line (judge number parts)
+      → AreFirstFields line (parts.surface ∷ parts.left ∷ parts.right ∷ parts.cost ∷ []) parts.feature → IsOutcome outcome_from number line (outcome_from number parts)
 
 -- the outcomes of numbered lines, one after another
 abbrev pub AreOutcomes : (ℕ → Parts → Outcome) → List (ℕ × List ℕ) → List Outcome → Type 0
-AreOutcomes judge [] [] = Unit {0}
-AreOutcomes judge [] (o ∷ os) = ⊥
-AreOutcomes judge (line ∷ lines) [] = ⊥
-AreOutcomes judge (line ∷ lines) (o ∷ os) = IsOutcome judge line.0 line.1 o × AreOutcomes judge lines os
+AreOutcomes outcome_from [] [] = Unit {0}
+AreOutcomes outcome_from [] (o ∷ os) = ⊥
+AreOutcomes outcome_from (line ∷ lines) [] = ⊥
+AreOutcomes outcome_from (line ∷ lines) (o ∷ os) = IsOutcome outcome_from line.0 line.1 o × AreOutcomes outcome_from lines os
 
 -- the error of the first rejected line of a file, with lines counted from `number` on and `held`
 -- earlier entries; an entry above the limit is rejected
@@ -79,7 +79,7 @@ abbrev pub first_rejected : ℕ → ℕ → ℕ → List Outcome → Option Sour
 first_rejected file number held [] = None
 first_rejected file number held (Blank ∷ more) = first_rejected file (number + 1) held more
 first_rejected file number held (Skipped ∷ more) = first_rejected file (number + 1) held more
-first_rejected file number held (Refused kind ∷ more) = Some (record { file = file; line = number; kind = kind })
+first_rejected file number held (Rejected kind ∷ more) = Some (record { file = file; line = number; kind = kind })
 first_rejected file number held (Accepted row ∷ more) =
     if nat_lt held ENTRIES_MAX
     then first_rejected file (number + 1) (held + 1) more
@@ -88,7 +88,7 @@ first_rejected file number held (Accepted row ∷ more) =
 abbrev pub accepted_row : Outcome → Option Row
 accepted_row Blank = None
 accepted_row Skipped = None
-accepted_row (Refused kind) = None
+accepted_row (Rejected kind) = None
 accepted_row (Accepted row) = Some row
 
 abbrev pub accepted_rows : List Outcome → List Row
@@ -97,7 +97,7 @@ accepted_rows outcomes = filter_map accepted_row outcomes
 abbrev pub is_skipped : Outcome → Bool
 is_skipped Blank = false
 is_skipped Skipped = true
-is_skipped (Refused kind) = false
+is_skipped (Rejected kind) = false
 is_skipped (Accepted row) = false
 
 -- the contents of a file: its accepted lines, and how many were skipped
@@ -111,8 +111,8 @@ reading_unless (Some fault) outcomes = Err fault
 
 -- the reading of file number `file` after `held` earlier entries: its contents, or its first error
 abbrev pub ReadsAs : (ℕ → Parts → Outcome) → ℕ → ℕ → List ℕ → Result Reading SourceFault → Type 0
-ReadsAs judge file held bytes reading =
-    (outcomes : List Outcome) × AreOutcomes judge (numbered_lines bytes) outcomes × (reading ≡ reading_unless (first_rejected file 1 held outcomes) outcomes)
+ReadsAs outcome_from file held bytes reading =
+    (outcomes : List Outcome) × AreOutcomes outcome_from (numbered_lines bytes) outcomes × (reading ≡ reading_unless (first_rejected file 1 held outcomes) outcomes)
 
 -- the reading of a lexicon
 abbrev pub IsLexicon : ℕ → ℕ → List ℕ → Result Reading SourceFault → Type 0

@@ -23,7 +23,7 @@ pub record HasSameSpan (s : Surface) (w : Word) : Type 0 where
 pub record IsWhole (words_of : Surface → List Word) (s : Surface) : Type 0 where
   pub count_is : length (words_of s) ≡ s.count
   pub some : 0 < s.count
-  pub stand : AllByRecursion (HasSameSpan s) (words_of s)
+  pub same_spans : AllByRecursion (HasSameSpan s) (words_of s)
 
 -- the surface `one` has a single word, which is the word of s with this number
 pub record IsWordOf (words_of : Surface → List Word) (s : Surface) (number : ℕ) (one : Surface) : Type 0 where

@@ -5,15 +5,15 @@ use Rattle.std.specs.List.{enumerate_from, position_or_len}
 use Rattle.mj_model.specs.declared.source_fault.TheConstants.{UNK_FILE}
 use Rattle.mj_model.specs.declared.source_fault.SourceFault.{SourceFault}
 use Rattle.mj_model.specs.declared.source_fault.SourceKind.TheVariants.{BadNumber, NoSuchCategory, MissingCategory}
-use Rattle.mj_model.specs.Lexicon.{Row, Parts, Reading, Outcome, Refused, Accepted, ReadsAs, row_from}
+use Rattle.mj_model.specs.Lexicon.{Row, Parts, Reading, Outcome, Rejected, Accepted, ReadsAs, row_from}
 use Rattle.mj_model.specs.declared.matrix_sizes.MatrixSizes.{MatrixSizes}
 use Rattle.mj_model.specs.Dictionary.{lexeme_of, first_outside}
 use Rattle.mj_model.specs.Tables.{Token}
 use Rattle.mj_model.specs.CharDef.{NamedCategory, is_defined, category_number}
 
 abbrev pub accept_defined : List NamedCategory → Option Row → Outcome
-accept_defined categories None = Refused BadNumber
-accept_defined categories (Some row) = if is_defined categories row.surface then Accepted row else Refused NoSuchCategory
+accept_defined categories None = Rejected BadNumber
+accept_defined categories (Some row) = if is_defined categories row.surface then Accepted row else Rejected NoSuchCategory
 
 -- the outcome of a line with four fields and a remainder, for these categories; no line is skipped
 abbrev pub unk_outcome : List NamedCategory → ℕ → Parts → Outcome

@@ -81,7 +81,7 @@ impl Display for FormatFault {
 impl From<AllocError> for FormatFault {
     ghost from_gives = { λ _ fault. fault ≡ Memory };
 
-    fn from(_refused: AllocError) -> FormatFault {
+    fn from(_error: AllocError) -> FormatFault {
         FormatFault::Memory
     }
 }
@@ -89,7 +89,7 @@ impl From<AllocError> for FormatFault {
 impl<T: Drop> From<AllocFailed<T>> for FormatFault {
     ghost from_gives = { λ _ fault. fault ≡ Memory };
 
-    fn from(_refused: AllocFailed<T>) -> FormatFault {
+    fn from(_error: AllocFailed<T>) -> FormatFault {
         FormatFault::Memory
     }
 }

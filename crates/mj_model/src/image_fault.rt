@@ -67,7 +67,7 @@ impl Display for ImageFault {
 impl<T: Drop> From<AllocFailed<T>> for ImageFault {
     ghost from_gives = { λ _ fault. fault ≡ Memory };
 
-    fn from(_refused: AllocFailed<T>) -> ImageFault {
+    fn from(_error: AllocFailed<T>) -> ImageFault {
         ImageFault::Memory
     }
 }
@@ -75,7 +75,7 @@ impl<T: Drop> From<AllocFailed<T>> for ImageFault {
 impl From<AllocError> for ImageFault {
     ghost from_gives = { λ _ fault. fault ≡ Memory };
 
-    fn from(_refused: AllocError) -> ImageFault {
+    fn from(_error: AllocError) -> ImageFault {
         ImageFault::Memory
     }
 }

@@ -134,7 +134,7 @@ impl Display for SourceKind {
 impl<T: Drop> From<AllocFailed<T>> for SourceKind {
     ghost from_gives = { λ _ kind. kind ≡ Memory };
 
-    fn from(_refused: AllocFailed<T>) -> SourceKind {
+    fn from(_error: AllocFailed<T>) -> SourceKind {
         SourceKind::Memory
     }
 }
@@ -142,7 +142,7 @@ impl<T: Drop> From<AllocFailed<T>> for SourceKind {
 impl From<AllocError> for SourceKind {
     ghost from_gives = { λ _ kind. kind ≡ Memory };
 
-    fn from(_refused: AllocError) -> SourceKind {
+    fn from(_error: AllocError) -> SourceKind {
         SourceKind::Memory
     }
 }
@@ -171,7 +171,7 @@ impl NamedFault for SourceFault {
 impl From<AllocError> for SourceFault {
     ghost from_gives = { λ _ fault. fault.kind ≡ Memory };
 
-    fn from(_refused: AllocError) -> SourceFault {
+    fn from(_error: AllocError) -> SourceFault {
         SourceKind::Memory.at(NO_FILE, 0)
     }
 }
@@ -179,7 +179,7 @@ impl From<AllocError> for SourceFault {
 impl<T: Drop> From<AllocFailed<T>> for SourceFault {
     ghost from_gives = { λ _ fault. fault.kind ≡ Memory };
 
-    fn from(_refused: AllocFailed<T>) -> SourceFault {
+    fn from(_error: AllocFailed<T>) -> SourceFault {
         SourceKind::Memory.at(NO_FILE, 0)
     }
 }

@@ -19,7 +19,7 @@ use Rattle.out_format.specs.Followable.{IsLow, AreFollowable}
 use Rattle.word_lookup.specs.declared.dictionaries.Dictionaries.{Dictionaries}
 use Rattle.word_lookup.specs.Overlays.{overlay_of}
 use Rattle.word_lookup.proofs.DictionaryLaws.{has_words, searchable}
-use Rattle.word_lookup.proofs.PlaceLemmas.{place_behind_blanks}
+use Rattle.word_lookup.proofs.PlaceLemmas.{place_after_blanks}
 
 abbrev Places : List ℕ → ℕ → Type 0
 Places line p = IsTrue (is_place line p)
@@ -31,8 +31,8 @@ Pairs o right left = IsTrue (is_pair o.system.sizes right left)
 abbrev Precedes : Overlay → List ℕ → ℕ → Type 0
 Precedes o line right = (p : ℕ) (w : Word) → Contains (words o line p) w → Pairs o right w.left
 
-low_behind : (p end : ℕ) (cost connection word : ℤ) → p < end → IsWithin (65536 * p) cost → IsWithin (2 ^ 15) connection → IsWithin (2 ^ 15) word → IsWithin (65536 * end) ((cost +ℤ connection) +ℤ word)
-low_behind p end cost connection word less (a, b) (c, d) (e, f) = (omega (arith, ints), omega (arith, ints))
+low_after : (p end : ℕ) (cost connection word : ℤ) → p < end → IsWithin (65536 * p) cost → IsWithin (2 ^ 15) connection → IsWithin (2 ^ 15) word → IsWithin (65536 * end) ((cost +ℤ connection) +ℤ word)
+low_after p end cost connection word less (a, b) (c, d) (e, f) = (omega (arith, ints), omega (arith, ints))
 
 word_of_place : (o : Overlay) (line : List ℕ) (p right : ℕ) (w : Word) → HasWords o → Places line p → Pairs o right w.left → Contains (words o line p) w → IsWordOf o line right w
 word_of_place o line p right w has place pair h =
@@ -45,7 +45,7 @@ word_of_place o line p right w has place pair h =
       blanks = omega (arith, at, start);
       forward = omega (arith, longer);
       within = within;
-      begins = place_behind_blanks o line p w.start place start (omega (arith, longer, within));
+      begins = place_after_blanks o line p w.start place start (omega (arith, longer, within));
       follows = pair;
     }
 
@@ -59,7 +59,7 @@ chain_followable o line has s (w ∷ ws) p to right cost chain precedes place in
     let below = low.1 in
     let low_here : IsLow cost = (omega (arith, ints, short, in', above), omega (arith, ints, short, in', below)) in
     let less : p < w.end = s.source.are.go_on p w chain.0 in
-    let next = low_behind p w.end cost (o.system.connection right w.left) w.cost less low (s.source.connections right w.left) (s.source.costs p w chain.0) in (
+    let next = low_after p w.end cost (o.system.connection right w.left) w.cost less low (s.source.connections right w.left) (s.source.costs p w chain.0) in (
       word_of_place o line p right w has place (precedes p w chain.0) chain.0,
       low_here,
       chain_followable o line has s ws w.end to w.right ((cost +ℤ o.system.connection right w.left) +ℤ w.cost) chain.1 (λ q v h. (s.word_follows q v h).after_word p w chain.0)

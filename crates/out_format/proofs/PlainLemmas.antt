@@ -41,10 +41,10 @@ parts_plain parts i part in' here before one =
 -- ---- what they show
 
 -- the text of plain pieces of a word does not depend on the path
-shown_standing : (o : Overlay) (line : List ℕ) (s : WordContext) (ps : List Piece) (shown : List ℕ) → All IsPlain ps → PrintsPieces (PrintsAnywhere o line s.word) ps shown → PrintsPieces (PrintsItem o line s) ps shown
-shown_standing o line s [] shown plain is = is
-shown_standing o line s (Byte b ∷ ps) shown plain (more, rest, is) = (more, shown_standing o line s ps more (All-tail IsPlain (Byte b) ps plain) rest, is)
-shown_standing o line s (ItemPiece i ∷ ps) shown plain (front, more, one, rest, is) = (front, more, one (All-head IsPlain (ItemPiece i) ps plain) s refl, shown_standing o line s ps more (All-tail IsPlain (ItemPiece i) ps plain) rest, is)
+shown_in_path : (o : Overlay) (line : List ℕ) (s : WordContext) (ps : List Piece) (shown : List ℕ) → All IsPlain ps → PrintsPieces (PrintsAnywhere o line s.word) ps shown → PrintsPieces (PrintsItem o line s) ps shown
+shown_in_path o line s [] shown plain is = is
+shown_in_path o line s (Byte b ∷ ps) shown plain (more, rest, is) = (more, shown_in_path o line s ps more (All-tail IsPlain (Byte b) ps plain) rest, is)
+shown_in_path o line s (ItemPiece i ∷ ps) shown plain (front, more, one, rest, is) = (front, more, one (All-head IsPlain (ItemPiece i) ps plain) s refl, shown_in_path o line s ps more (All-tail IsPlain (ItemPiece i) ps plain) rest, is)
 
 plain_pieces : (f : Format) (origin : Origin) → HasPlainWords f → All IsPlain (word_pieces f origin)
 plain_pieces f (Known dict number) plain = plain.node
@@ -74,13 +74,13 @@ pub plain_more : (o : Overlay) (f : Format) (line : List ℕ) (words rest ws : L
 plain_more o f line words rest ws w ps old mid new plain split pieces before (front, is, e) =
     let now = (before.cost +ℤ o.system.connection before.right w.left) +ℤ w.cost in
     let next = next_followable o line rest ws w before.right before.cost split before.follow in
-    let standing : WordContext = record { word = w; right_before = before.right; cost_so_far = now } in
+    let in_path : WordContext = record { word = w; right_before = before.right; cost_so_far = now } in
     let all : All IsPlain ps = subst (All IsPlain) (sym pieces) (plain_pieces f w.origin plain) in
     record {
       right = w.right;
       cost = now;
       follow = next.2;
-      shown = word_more o f line words rest ws w before.right before.cost now ps old mid new split refl pieces before.shown (front, shown_standing o line standing ps front all is, e);
+      shown = word_more o f line words rest ws w before.right before.cost now ps old mid new split refl pieces before.shown (front, shown_in_path o line in_path ps front all is, e);
     }
 
 pub all_plain : (o : Overlay) (f : Format) (line : List ℕ) (words rest : List Word) (old new : List ℕ) → rest ≡ [] → PlainSoFar o f line words rest old new → (shown : List ℕ) × PrintsWords o f line 0 (pos 0) words shown × (new ≡ old ++ shown)

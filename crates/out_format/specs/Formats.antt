@@ -163,8 +163,8 @@ IsFormat texts (Err (fault.Bad part at kind)) = AreGoodBefore texts part × IsBa
 IsFormat texts (Err fault.Memory) = ⊥
 
 -- the texts are rejected: an allocation failed, or this is their first error
-abbrev pub IsFormatRefusal : FormatTexts → FormatFault → Type 0
-IsFormatRefusal texts refusal = (refusal ≡ fault.Memory) ⊎ IsFormat texts (Err refusal)
+abbrev pub IsFormatError : FormatTexts → FormatFault → Type 0
+IsFormatError texts refusal = (refusal ≡ fault.Memory) ⊎ IsFormat texts (Err refusal)
 
 -- each four texts parse in exactly one way
 abbrev pub HasOneFormat : Type 0

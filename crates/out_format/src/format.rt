@@ -1,7 +1,7 @@
 //! Formats, parsed once.
 
 ghost use Rattle.std.specs.Prelude.{◌≡◌, IsTrue, IfOk, IfErr, map};
-ghost use Rattle.out_format.specs.Formats.{IsFormatRefusal, ReadsFormat};
+ghost use Rattle.out_format.specs.Formats.{IsFormatError, ReadsFormat};
 ghost use Rattle.out_format.specs.PrintedPaths.{word_pieces};
 ghost use Rattle.out_format.specs.Pieces.{piece_of, pieces_of};
 ghost use Rattle.out_format.specs.Plain.{HasPlainWords};
@@ -56,7 +56,7 @@ impl Format {
         eos: &str,
     ) -> Result<Format, FormatFault>
         ensures accepted { IfOk result (ReadsFormat (texts_of node.now unk.entry bos.now eos.now)) }
-        ensures rejected { IfErr result (IsFormatRefusal
+        ensures rejected { IfErr result (IsFormatError
             (texts_of node.now unk.entry bos.now eos.now)) }
     {
         let node_parts = parse_part(alloc, node, FormatPart::Node)?;

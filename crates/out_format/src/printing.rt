@@ -142,7 +142,7 @@ fn append_words<'a, W: WordStream + Drop>(
         cost_so_far = cost_with(dictionaries, right_before, cost_so_far, &word);
         let parts = format.word_parts(word.origin);
         last.switch_to(dictionaries, &word, parts);
-        let standing = WordInPath {
+        let in_path = WordInPath {
             dictionaries,
             line: Line {
                 text,
@@ -152,7 +152,7 @@ fn append_words<'a, W: WordStream + Drop>(
             right_before,
             fields: &last.fields,
         };
-        append_parts(&standing, parts, out)?;
+        append_parts(&in_path, parts, out)?;
         right_before = word.right;
     }
     Ok(())

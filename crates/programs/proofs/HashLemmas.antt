@@ -8,7 +8,7 @@ use Rattle.mj_model.specs.declared.image_fault.ImageFault.TheVariants.{Digest, M
 use Rattle.image_format.specs.ImageBytes.{header_length, section_end}
 use Rattle.image_format.specs.ImageFaults.{IsAccepted, IsDigestAt, IsImageFault, PassesDigest}
 use Rattle.image_format.specs.declared.digest_test.DigestTest.{DigestTest}
-use Rattle.image_format.specs.declared.digest_test.DigestTest.TheVariants.{Made, Skipped}
+use Rattle.image_format.specs.declared.digest_test.DigestTest.TheVariants.{Verified, Skipped}
 use Rattle.image_format.specs.declared.header.Header.{Header}
 use Rattle.dict_image.specs.Validation.BeforeMemory.{ReachKeys}
 use Rattle.programs.specs.HashedImages.{AgreeOnDigest, digest_place}
@@ -27,8 +27,8 @@ pub place_kept : (first rest : List ℕ) → header_length ≤ length first → 
 place_kept first rest long = ap (λ (h : Header). section_end h 8) (header_kept first rest long)
 
 -- a checksum that is right need not be tested again
-pub digest_found : (asked : DigestTest) (bytes : List ℕ) → IsDigestAt Made (digest_place bytes) bytes → AgreeOnDigest asked Skipped bytes
-digest_found Made bytes right = ((λ _ _. tt), (λ _ _. right))
+pub digest_found : (asked : DigestTest) (bytes : List ℕ) → IsDigestAt Verified (digest_place bytes) bytes → AgreeOnDigest asked Skipped bytes
+digest_found Verified bytes right = ((λ _ _. tt), (λ _ _. right))
 digest_found Skipped bytes right = ((λ _ _. tt), (λ _ _. tt))
 
 -- checksum tests with the same result make the other tests of an image give the same result
@@ -51,12 +51,12 @@ module _ (asked left : DigestTest) (bytes : List ℕ) (alike : AgreeOnDigest ask
   pub fault_alike : (fault : ImageFault) → IsImageFault left bytes fault → IsImageFault asked bytes fault
   fault_alike fault reported = later (later (later (later (later last)))) reported
 
-  pub refused_alike : (fault : ImageFault) → (fault ≡ Memory) ⊎ IsImageFault left bytes fault → (fault ≡ Memory) ⊎ IsImageFault asked bytes fault
-  refused_alike fault (inl none) = inl none
-  refused_alike fault (inr reported) = inr (fault_alike fault reported)
+  pub rejected_alike : (fault : ImageFault) → (fault ≡ Memory) ⊎ IsImageFault left bytes fault → (fault ≡ Memory) ⊎ IsImageFault asked bytes fault
+  rejected_alike fault (inl none) = inl none
+  rejected_alike fault (inr reported) = inr (fault_alike fault reported)
 
 -- bytes that end before the offset of the checksum have no checksum
-pub too_short : (place : ℕ) (image : List ℕ) → length image < place → IsDigestAt Made place image → ⊥
+pub too_short : (place : ℕ) (image : List ℕ) → length image < place → IsDigestAt Verified place image → ⊥
 too_short place image short same =
     let following = length-drop place image in
     let digest = length-sha256 (take place image) in

@@ -53,7 +53,7 @@ module _ (first rest : List ℕ) (within : header_length ≤ length first) where
 
   -- neither does the length that the header demands
   pub head_kept : (reported : ℕ) → IsHead first reported → IsHead (first ++ rest) reported
-  head_kept reported head = record { long = long; magic = magic_kept ∙ head.magic; layout = subst IsReadLayout (sym layout_kept) head.layout; told_is = head.told_is ∙ sym total_kept }
+  head_kept reported head = record { long = long; magic = magic_kept ∙ head.magic; layout = subst IsReadLayout (sym layout_kept) head.layout; reported_is = head.reported_is ∙ sym total_kept }
 
   -- bytes without the magic
   pub no_magic : (take 8 first ≡ image_magic → ⊥) → IsFaultOf (first ++ rest) BadMagic
@@ -82,32 +82,32 @@ module _ (first rest : List ℕ) (within : header_length ≤ length first) where
           inr (long, inr (has_magic, inr (is_read, inr (omega (arith, many, t), inl ((λ no_more. omega (arith, many, no_more, t)), refl)))))
 
 -- an error of each image that begins with the bytes given is the error of the reader's bytes
-pub refused_at : (known : Option ℕ) (before after : Option (List ℕ)) (first : List ℕ) (fault : ImageFault) → Consumes before after first → IsFaultOfEach known first fault → IsErrorAt known before (Image fault)
-refused_at known None after first fault gave each = tt
-refused_at known (Some bytes) None first fault gave each = absurd gave
-refused_at known (Some bytes) (Some rest) first fault gave each =
+pub rejected_at : (known : Option ℕ) (before after : Option (List ℕ)) (first : List ℕ) (fault : ImageFault) → Consumes before after first → IsFaultOfEach known first fault → IsErrorAt known before (Image fault)
+rejected_at known None after first fault gave each = tt
+rejected_at known (Some bytes) None first fault gave each = absurd gave
+rejected_at known (Some bytes) (Some rest) first fault gave each =
     λ fits. subst (λ (b : List ℕ). IsFaultOf b fault) (sym gave) (each rest (subst (HasLength known) gave fits))
 
 -- an error of the bytes after the first ones is the error of the reader's bytes
-pub refused_behind : (known : Option ℕ) (before after : Option (List ℕ)) (first : List ℕ) (fault : ImageReadFault) → Consumes before after first → IsRestError first after fault → IsErrorAt known before fault
-refused_behind known before after first (Read fault) gave rest = tt
-refused_behind known None after first (Image fault) gave rest = tt
-refused_behind known (Some bytes) None first (Image fault) gave rest = absurd gave
-refused_behind known (Some bytes) (Some more) first (Image fault) gave rest = λ fits. subst (λ (b : List ℕ). IsFaultOf b fault) (sym gave) rest
+pub rejected_after : (known : Option ℕ) (before after : Option (List ℕ)) (first : List ℕ) (fault : ImageReadFault) → Consumes before after first → IsRestError first after fault → IsErrorAt known before fault
+rejected_after known before after first (Read fault) gave rest = tt
+rejected_after known None after first (Image fault) gave rest = tt
+rejected_after known (Some bytes) None first (Image fault) gave rest = absurd gave
+rejected_after known (Some bytes) (Some more) first (Image fault) gave rest = λ fits. subst (λ (b : List ℕ). IsFaultOf b fault) (sym gave) rest
 
 -- an error by `IsErrorOrKnownLength` of each image that begins with the bytes given is one of the reader's
 -- bytes
-pub judged_at : (known : Option ℕ) (before after : Option (List ℕ)) (first : List ℕ) (fault : ImageFault) → Consumes before after first → IsErrorOrLengthOfEach known first fault → IsErrorOrLengthAt known before (Image fault)
-judged_at known None after first fault gave each = tt
-judged_at known (Some bytes) None first fault gave each = absurd gave
-judged_at known (Some bytes) (Some rest) first fault gave each =
+pub tested_at : (known : Option ℕ) (before after : Option (List ℕ)) (first : List ℕ) (fault : ImageFault) → Consumes before after first → IsErrorOrLengthOfEach known first fault → IsErrorOrLengthAt known before (Image fault)
+tested_at known None after first fault gave each = tt
+tested_at known (Some bytes) None first fault gave each = absurd gave
+tested_at known (Some bytes) (Some rest) first fault gave each =
     λ few. subst (λ (b : List ℕ). IsErrorOrKnownLength known b fault) (sym gave) (each rest (subst (λ (b : List ℕ). length b < 2 ^ 64) gave few))
 
-pub judged_behind : (known : Option ℕ) (before after : Option (List ℕ)) (first : List ℕ) (fault : ImageReadFault) → Consumes before after first → IsRestError first after fault → IsErrorOrLengthAt known before fault
-judged_behind known before after first (Read fault) gave rest = tt
-judged_behind known None after first (Image fault) gave rest = tt
-judged_behind known (Some bytes) None first (Image fault) gave rest = absurd gave
-judged_behind known (Some bytes) (Some more) first (Image fault) gave rest = λ few. subst (λ (b : List ℕ). IsErrorOrKnownLength known b fault) (sym gave) (inl rest)
+pub tested_after : (known : Option ℕ) (before after : Option (List ℕ)) (first : List ℕ) (fault : ImageReadFault) → Consumes before after first → IsRestError first after fault → IsErrorOrLengthAt known before fault
+tested_after known before after first (Read fault) gave rest = tt
+tested_after known None after first (Image fault) gave rest = tt
+tested_after known (Some bytes) None first (Image fault) gave rest = absurd gave
+tested_after known (Some bytes) (Some more) first (Image fault) gave rest = λ few. subst (λ (b : List ℕ). IsErrorOrKnownLength known b fault) (sym gave) (inl rest)
 
 -- bytes that are too many are rejected as `IsRejectedEarly` allows
 pub late : (before after : Option (List ℕ)) (fault : ImageReadFault) → IsForLength fault → IsRejectedEarly before after fault
@@ -115,18 +115,18 @@ late before after (Read fault) longer = tt
 late before after (Image fault) longer = inl longer
 
 -- bytes read after a header, no more than it demands
-pub head_behind : (first now : List ℕ) (reported : ℕ) (before after : Option (List ℕ)) → IsHead first reported → IsReadOn first before after now → length now ≤ reported
+pub head_after : (first now : List ℕ) (reported : ℕ) (before after : Option (List ℕ)) → IsHead first reported → IsReadOn first before after now → length now ≤ reported
     → (demanded : ℕ) × IsHead now demanded × (length now ≤ demanded)
-head_behind first now reported before after head read few =
+head_after first now reported before after head read few =
     (reported, subst (λ (b : List ℕ). IsHead b reported) (sym read.2) (head_kept first read.0 head.long reported head), few)
 
 -- more bytes than the header demands
-pub longer_behind : (first now : List ℕ) (reported : ℕ) (before after : Option (List ℕ)) → IsHead first reported → IsReadOn first before after now → reported < length now → IsRestError first before (Image (BadSection 9))
-longer_behind first now reported None after head read many = tt
-longer_behind first now reported (Some rest) None head read many = absurd read.1
-longer_behind first now reported (Some rest) (Some more) head read many =
+pub longer_after : (first now : List ℕ) (reported : ℕ) (before after : Option (List ℕ)) → IsHead first reported → IsReadOn first before after now → reported < length now → IsRestError first before (Image (BadSection 9))
+longer_after first now reported None after head read many = tt
+longer_after first now reported (Some rest) None head read many = absurd read.1
+longer_after first now reported (Some rest) (Some more) head read many =
     let whole = ap length read.2 ∙ length-append first read.0 in
     let following = ap length read.1 ∙ length-append read.0 more in
     let all = length-append first rest in
-    let told_is = head.told_is in
-    too_many first rest head.long head.magic head.layout (omega (arith, whole, following, all, told_is, many))
+    let reported_is = head.reported_is in
+    too_many first rest head.long head.magic head.layout (omega (arith, whole, following, all, reported_is, many))

@@ -20,11 +20,11 @@ on_ok_so P Q (Err e) so p = tt
 abbrev reported : (X : Type 0) → ReadFault → Result X ImageReadFault
 reported X fault = Err (Read fault)
 
-abbrev read_told : {X : Type 0} → ReadFault → Result X ImageReadFault → ReadFault
-read_told otherwise (Ok x) = otherwise
-read_told otherwise (Err (Read fault)) = fault
-read_told otherwise (Err (Image fault)) = otherwise
+abbrev read_reported : {X : Type 0} → ReadFault → Result X ImageReadFault → ReadFault
+read_reported otherwise (Ok x) = otherwise
+read_reported otherwise (Err (Read fault)) = fault
+read_reported otherwise (Err (Image fault)) = otherwise
 
 -- results that carry an error of a read are equal only if these errors are
 pub same_read : (X : Type 0) (f g : ReadFault) → reported X f ≡ reported X g → f ≡ g
-same_read X f g same = ap (read_told g) same
+same_read X f g same = ap (read_reported g) same

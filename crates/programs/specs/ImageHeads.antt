@@ -32,7 +32,7 @@ pub record IsHead (first : List ℕ) (reported : ℕ) : Type 0 where
   pub long : header_length ≤ length first
   pub magic : take 8 first ≡ image_magic
   pub layout : IsReadLayout (header_of first).layout
-  pub told_is : reported ≡ total_length (header_of first)
+  pub reported_is : reported ≡ total_length (header_of first)
 
 -- bytes shorter than a header, or bytes that pass those tests and are no more than their header
 -- demands

@@ -7,4 +7,5 @@ pub mod LoadedImages
 pub mod Paths
 pub mod Reading
 pub mod Statuses
+pub mod TestRecords
 pub mod Writing

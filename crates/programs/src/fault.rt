@@ -136,7 +136,7 @@ impl NamedFault for &Fault {
 impl From<AllocError> for Fault {
     ghost from_gives = { λ _ fault. fault ≡ Memory };
 
-    fn from(_refused: AllocError) -> Fault {
+    fn from(_error: AllocError) -> Fault {
         Fault::Memory
     }
 }

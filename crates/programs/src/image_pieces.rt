@@ -3,7 +3,7 @@
 ghost use Rattle.std.specs.Prelude.{◌≡◌, ◌≤◌, ◌↔◌, ℕ, List, [], ◌++◌, length, IfSome, IsTrue};
 ghost use Rattle.image_format.specs.ImageBytes.{header_length};
 ghost use Rattle.image_format.specs.ImageFaults.{IsDigestAt};
-ghost use Rattle.image_format.specs.declared.digest_test.DigestTest.TheVariants.{Made};
+ghost use Rattle.image_format.specs.declared.digest_test.DigestTest.TheVariants.{Verified};
 ghost use Rattle.programs.specs.HashedImages.{AgreeOnDigest, HasReceived, HasHashed, digest_place};
 
 use crate::image_reading::{ImageReading, ReadImage};
@@ -161,7 +161,7 @@ impl Hashed {
     /// Returns whether the image ends with its checksum, and that is right. (FIPS 180-4)
     fn is_before_digest(self, image: &[u8]) -> bool
         ensures { HasHashed (digest_place image.now) image.now self
-            → IsTrue result ↔ IsDigestAt Made (digest_place image.now) image.now }
+            → IsTrue result ↔ IsDigestAt Verified (digest_place image.now) image.now }
     {
         let Hashed { end, hasher } = self;
         if image.len() < end {

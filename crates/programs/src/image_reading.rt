@@ -17,7 +17,7 @@ use crate::image_pieces::ImagePieces;
 use crate::prefix_read::{PrefixRead, read_prefix};
 use crate::progress::ReadProgress;
 use crate::reading::ReadFault;
-use dict_image::{Dict, load_testing};
+use dict_image::{Dict, load_checking};
 use image_format::{DigestTest, HEADER_LENGTH};
 use line_stream::new_buffer;
 use mj_model::ImageFault;
@@ -40,7 +40,7 @@ pub struct ReadImage {
 }
 
 impl ReadImage {
-    /// Loads the dictionary. Returns what `load_testing` returns for the checksum test that was
+    /// Loads the dictionary. Returns what `load_checking` returns for the checksum test that was
     /// requested.
     pub fn load(self, alloc: Global) -> Result<Dict, ImageFault>
         ensures dict { IfOk result (λ dict. dict ≡ self.bytes.items) }
@@ -54,7 +54,7 @@ impl ReadImage {
         ensures out_of_memory { IfErr result
             (λ fault. fault ≡ NoMemory → ReachKeys self.digest self.bytes.items) }
     {
-        load_testing(alloc, self.bytes, self.digest)
+        load_checking(alloc, self.bytes, self.digest)
     }
 }
 
@@ -70,7 +70,7 @@ pub enum ImageReadFault {
 impl From<AllocError> for ImageReadFault {
     ghost from_gives = { λ _ fault. fault ≡ Read Memory };
 
-    fn from(_refused: AllocError) -> ImageReadFault {
+    fn from(_error: AllocError) -> ImageReadFault {
         ImageReadFault::Read(ReadFault::Memory)
     }
 }

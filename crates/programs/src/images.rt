@@ -9,11 +9,12 @@ ghost use Rattle.programs.specs.HashedImages.{AgreeOnDigest};
 ghost use Rattle.programs.specs.ImageHeads.{IfRejected, IsErrorOrLengthAt, IsLoadError, IsReadHead, IsErrorAt, IsErrorOfAFile, IsRejectedEarly};
 ghost use Rattle.programs.specs.LoadedImages.{AreLoaded, IsErrorOfOne};
 ghost use Rattle.programs.specs.Reading.{AreOfAFile};
+ghost use Rattle.programs.specs.TestRecords.{HoldsForRemaining};
 
 use crate::fault::Fault;
 use crate::image_reading::{ImageReadFault, ImageReading, ReadImage, read_image};
 use crate::progress::{Progress, ReadProgress};
-use crate::test_record::remaining_digest_test;
+use crate::test_record::{has_record, remaining_digest_test};
 use dict_image::{Dict, DigestTest};
 use mj_model::READS_MAX;
 use std::alloc::{AllocError, Global};
@@ -29,17 +30,39 @@ pub fn load_dictionary(rt: &HostRuntime, path: &str, digest: DigestTest) -> Resu
     ensures fault { IfErr result (NamesFileOrImage path.now) }
 {
     let progress = Progress::new(rt);
-    let remaining = remaining_digest_test(rt, path, digest);
-    let loaded = dictionary_at(rt, path, remaining, &progress);
+    let recorded = |path: &str| has_record(rt, path);
+    let loaded = dictionary_with_records(rt, path, digest, recorded, &progress);
     progress.erase();
     loaded
+}
+
+/// Loads the dictionary of the image at `path` from any file system. The checksum is not tested if
+/// `has_record` returns that the image has a record of its tests.
+fn dictionary_with_records<R: Files + AllocGlobal, H: Fn(&str) -> bool + Drop>(
+    rt: &R,
+    path: &str,
+    digest: DigestTest,
+    has_record: H,
+    progress: &Progress<'_>,
+) -> Result<Dict, Fault>
+    requires { H.IsAlwaysCallable has_record }
+    ensures bytes { IfOk result (λ dict. AreOfAFile R.File.remaining dict) }
+    // The checksum of an image without a record is tested as requested.
+    ensures accepted { IfOk result (λ dict. HoldsForRemaining (H.post has_record) path.now digest
+        (λ left. IsAccepted left dict)) }
+    ensures rejected { IfErr result (λ fault. HoldsForRemaining (H.post has_record) path.now digest
+        (λ left. IsLoadError left R.File.remaining fault)) }
+    ensures fault { IfErr result (NamesFileOrImage path.now) }
+{
+    let remaining = remaining_digest_test(path, digest, has_record);
+    dictionary_at(rt, path, remaining, progress)
 }
 
 /// Loads the dictionary of the image at `path` from any file system, so that the contract can name
 /// the bytes of the file.
 ///
 /// An image with an invalid header, or of another length than its header demands, is rejected with
-/// the error of `load_testing`, before memory for the whole is allocated.
+/// the error of `load_checking`, before memory for the whole is allocated.
 pub fn dictionary_at<R: Files + AllocGlobal>(
     rt: &R,
     path: &str,

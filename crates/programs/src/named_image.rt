@@ -21,8 +21,8 @@ pub fn image_path(rt: &HostRuntime, name: &str) -> Result<String, AllocError>
     if is_searched_for(rt, name) {
         let here = Environment::here(rt)?;
         let image_dirs = here.image_dirs(rt.alloc())?;
-        for home in &image_dirs {
-            let path = image_in(rt.alloc(), home.as_str(), name)?;
+        for dir in &image_dirs {
+            let path = image_in(rt.alloc(), dir.as_str(), name)?;
             if is_file(rt, path.as_str()) {
                 return Ok(path);
             }

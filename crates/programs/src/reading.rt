@@ -23,7 +23,7 @@ pub enum ReadFault {
 impl From<AllocError> for ReadFault {
     ghost from_gives = { λ _ fault. fault ≡ Memory };
 
-    fn from(_refused: AllocError) -> ReadFault {
+    fn from(_error: AllocError) -> ReadFault {
         ReadFault::Memory
     }
 }

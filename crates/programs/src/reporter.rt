@@ -106,8 +106,8 @@ impl<'a> Reporter<'a> {
         let line = match fault {
             Fault::File(path) => {
                 let path = path.as_str();
-                let trouble = FileError::of(self.rt, path);
-                line_of(self.rt.alloc(), path, trouble.text(self.rt.alloc()))
+                let cause = FileError::of(self.rt, path);
+                line_of(self.rt.alloc(), path, cause.text(self.rt.alloc()))
             }
             Fault::Format(FormatFault::Bad { part, .. }) => {
                 let option = option_of(*part);

@@ -27,8 +27,8 @@ pub fn log_image_dirs(rt: &HostRuntime, reporter: &Reporter<'_>, fault: &Fault) 
 
 fn log_dirs(rt: &HostRuntime, reporter: &Reporter<'_>) -> Result<(), AllocError> {
     let image_dirs = Environment::here(rt)?.image_dirs(rt.alloc())?;
-    for home in &image_dirs {
-        reporter.print_line(&SearchedDir(home.as_str()));
+    for dir in &image_dirs {
+        reporter.print_line(&SearchedDir(dir.as_str()));
     }
     let names = names_there(rt, &image_dirs)?;
     reporter.print_line(&AvailableNames(&names));

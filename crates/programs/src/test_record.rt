@@ -1,8 +1,7 @@
 //! Records of tests: a file beside an installed image that identifies the image's file and states
 //! that it passed all tests.
 
-ghost use Rattle.std.specs.Prelude.{◌≡◌, ◌⊎◌};
-ghost use Rattle.image_format.specs.declared.digest_test.DigestTest.TheVariants.{Skipped};
+ghost use Rattle.programs.specs.TestRecords.{IsRemainingTest};
 
 use crate::environment::Environment;
 use crate::whole_file::WholeFile;
@@ -21,12 +20,17 @@ const RECORD_MAX: u64 = 512;
 /// digits, and a line feed.
 const DIGITS: usize = 65;
 
-/// Returns the checksum test that remains to be made for the image at `path`: none if it is an
-/// installed image with a record of its tests, otherwise `digest`.
-pub(crate) fn remaining_digest_test(rt: &HostRuntime, path: &str, digest: DigestTest) -> DigestTest
-    ensures { (result ≡ digest) ⊎ (result ≡ Skipped) }
+/// Returns the checksum test that remains to be made for the image at `path`: none if `has_record`
+/// returns that it has a record of its tests, otherwise `digest`.
+pub(crate) fn remaining_digest_test<H: Fn(&str) -> bool + Drop>(
+    path: &str,
+    digest: DigestTest,
+    has_record: H,
+) -> DigestTest
+    requires { H.IsAlwaysCallable has_record }
+    ensures { IsRemainingTest (H.post has_record) path.now digest result }
 {
-    if has_record(rt, path) {
+    if has_record(path) {
         DigestTest::Skipped
     } else {
         digest
@@ -35,7 +39,7 @@ pub(crate) fn remaining_digest_test(rt: &HostRuntime, path: &str, digest: Digest
 
 /// Returns whether an image lies in an image directory beside a record of its file. Returns false
 /// if an allocation fails.
-fn has_record(rt: &HostRuntime, path: &str) -> bool {
+pub(crate) fn has_record(rt: &HostRuntime, path: &str) -> bool {
     !is_distrusted(rt) && is_recorded(rt, path).is_ok_and(|recorded| recorded)
 }
 
@@ -62,8 +66,8 @@ fn is_installed(rt: &HostRuntime, path: &str) -> Result<bool, AllocError> {
         return Ok(false);
     };
     let image_dirs = Environment::here(rt)?.image_dirs(rt.alloc())?;
-    for home in &image_dirs {
-        if home.as_str() == folder.as_str() {
+    for dir in &image_dirs {
+        if dir.as_str() == folder.as_str() {
             return Ok(true);
         }
     }

@@ -119,7 +119,7 @@ one_sample all k w at = ap (λ (o : Option Word). option_map_or (λ (v : Word). 
 sample_is_whole : (all : List Word) (k : ℕ) (w : Word) → slice_get all k ≡ Some w → IsWhole (words_numbered all) (surface_of k w)
 sample_is_whole all k w at =
     let e = one_sample all k w at in
-    record { count_is = ap length e; some = omega arith; stand = subst (AllByRecursion (HasSameSpan (surface_of k w))) (sym e) (record { place = refl; start = refl; end = refl }, tt) }
+    record { count_is = ap length e; some = omega arith; same_spans = subst (AllByRecursion (HasSameSpan (surface_of k w))) (sym e) (record { place = refl; start = refl; end = refl }, tt) }
 
 are_case : (all : List Word) (k : ℕ) (w : Word) (words : List Word) (surfaces : List Surface) (b : Bool) → slice_get all k ≡ Some w → AreSurfacesOf (words_numbered all) words surfaces
     → AreSurfacesOf (words_numbered all) (cond b (numbered k w ∷ []) [] ++ words) (cond b (surface_of k w ∷ []) [] ++ surfaces)

@@ -1,8 +1,8 @@
 //! Tests of the public calls, grouped by crate.
 mod dicts;
+mod of_best_rival;
 mod of_lattice;
 mod of_lattice_nodes;
-mod of_path_rivals;
 mod of_rivals;
 mod of_word_lookup;
 mod sample;

@@ -32,8 +32,8 @@ text_or other (Err fault) = other
 same_fault : (f g : LineFault) → ◌≡◌ {A = Result (List ℕ) LineFault} (Err f) (Err g) → f ≡ g
 same_fault f g e = ap (fault_or f) e
 
-same_told : (x y : List ℕ) → ◌≡◌ {A = Result (List ℕ) LineFault} (Ok x) (Ok y) → x ≡ y
-same_told x y e = ap (text_or x) e
+same_reported : (x y : List ℕ) → ◌≡◌ {A = Result (List ℕ) LineFault} (Ok x) (Ok y) → x ≡ y
+same_reported x y e = ap (text_or x) e
 
 not_both : (x : List ℕ) (fault : LineFault) → ◌≡◌ {A = Result (List ℕ) LineFault} (Ok x) (Err fault) → ⊥
 not_both x fault e = cc
@@ -47,20 +47,20 @@ module _ (o : Overlay) (format : Format) (covers : CoversTexts o) where
       let shown = one_text o format line h.0 in
       shown.2 y (subst (λ (path : List Word). PrintsPath o format line path y) same k.2) ∙ sym (shown.2 x h.2)
 
-  one_told : (line : List ℕ) (a b : Result (List ℕ) LineFault) → LineResult o format line a → LineResult o format line b → b ≡ a
-  one_told line (Ok x) (Ok y) h k = ap Ok (one_print line x y h.0 h.1 k.1)
-  one_told line (Ok x) (Err TooLong) h k = absurd (omega (arith, h.0.0, k))
-  one_told line (Ok x) (Err NotUtf8) h k = absurd (k.1 h.0.1)
-  one_told line (Err TooLong) (Ok y) h k = absurd (omega (arith, h, k.0.0))
-  one_told line (Err TooLong) (Err TooLong) h k = refl
-  one_told line (Err TooLong) (Err NotUtf8) h k = absurd (omega (arith, h, k.0))
-  one_told line (Err NotUtf8) (Ok y) h k = absurd (h.1 k.0.1)
-  one_told line (Err NotUtf8) (Err TooLong) h k = absurd (omega (arith, h.0, k))
-  one_told line (Err NotUtf8) (Err NotUtf8) h k = refl
+  one_reported : (line : List ℕ) (a b : Result (List ℕ) LineFault) → LineResult o format line a → LineResult o format line b → b ≡ a
+  one_reported line (Ok x) (Ok y) h k = ap Ok (one_print line x y h.0 h.1 k.1)
+  one_reported line (Ok x) (Err TooLong) h k = absurd (omega (arith, h.0.0, k))
+  one_reported line (Ok x) (Err NotUtf8) h k = absurd (k.1 h.0.1)
+  one_reported line (Err TooLong) (Ok y) h k = absurd (omega (arith, h, k.0.0))
+  one_reported line (Err TooLong) (Err TooLong) h k = refl
+  one_reported line (Err TooLong) (Err NotUtf8) h k = absurd (omega (arith, h, k.0))
+  one_reported line (Err NotUtf8) (Ok y) h k = absurd (h.1 k.0.1)
+  one_reported line (Err NotUtf8) (Err TooLong) h k = absurd (omega (arith, h.0, k))
+  one_reported line (Err NotUtf8) (Err NotUtf8) h k = refl
 
   -- each line has a result
-  some_told : (line : List ℕ) → (reported : Result (List ℕ) LineFault) × LineResult o format line reported
-  some_told line = elim (cases_lt SENTENCE_MAX (length line)) [
+  some_reported : (line : List ℕ) → (reported : Result (List ℕ) LineFault) × LineResult o format line reported
+  some_reported line = elim (cases_lt SENTENCE_MAX (length line)) [
     | inl long ↦ (Err TooLong, long)
     | inr short ↦ elim (cases_Bool (is_utf8 line)) [
       | inl is ↦
@@ -83,18 +83,18 @@ module _ (o : Overlay) (format : Format) (covers : CoversTexts o) where
 
   some_output : (n : ℕ) (lines : List (List ℕ)) → HasOutput n lines
   some_output n [] = ([], None, (refl, refl))
-  some_output n (line ∷ lines) = let reported = some_told line in with_first n line lines reported.0 reported.1 (some_output (n + 1) lines)
+  some_output n (line ∷ lines) = let reported = some_reported line in with_first n line lines reported.0 reported.1 (some_output (n + 1) lines)
 
   one_output_of : (n : ℕ) (lines : List (List ℕ)) (out other : List ℕ) (bad also_bad : Option (BadLine LineFault)) → Output (LineResult o format) n lines out bad
       → Output (LineResult o format) n lines other also_bad → (other ≡ out) × (also_bad ≡ bad)
   one_output_of n [] out other bad also_bad h k = (k.0 ∙ sym h.0, k.1 ∙ sym h.1)
   one_output_of n (line ∷ lines) out other bad also_bad (inl h) (inl k) =
-      let same = same_fault k.0 h.0 (one_told line (Err h.0) (Err k.0) h.1 k.1) in
+      let same = same_fault k.0 h.0 (one_reported line (Err h.0) (Err k.0) h.1 k.1) in
       (k.2 ∙ sym h.2, k.3 ∙ ap (λ (fault : LineFault). Some (let b : BadLine LineFault = record { number = n; fault = fault } in b)) same ∙ sym h.3)
-  one_output_of n (line ∷ lines) out other bad also_bad (inl h) (inr k) = absurd (not_both k.0 h.0 (one_told line (Err h.0) (Ok k.0) h.1 k.2))
-  one_output_of n (line ∷ lines) out other bad also_bad (inr h) (inl k) = absurd (not_both h.0 k.0 (sym (one_told line (Ok h.0) (Err k.0) h.2 k.1)))
+  one_output_of n (line ∷ lines) out other bad also_bad (inl h) (inr k) = absurd (not_both k.0 h.0 (one_reported line (Err h.0) (Ok k.0) h.1 k.2))
+  one_output_of n (line ∷ lines) out other bad also_bad (inr h) (inl k) = absurd (not_both h.0 k.0 (sym (one_reported line (Ok h.0) (Err k.0) h.2 k.1)))
   one_output_of n (line ∷ lines) out other bad also_bad (inr h) (inr k) =
-      let same = same_told k.0 h.0 (one_told line (Ok h.0) (Ok k.0) h.2 k.2) in
+      let same = same_reported k.0 h.0 (one_reported line (Ok h.0) (Ok k.0) h.2 k.2) in
       let rest = one_output_of (n + 1) lines h.1 k.1 bad also_bad h.3 k.3 in
       (k.4 ∙ (λ i. same i ++ rest.0 i) ∙ sym h.4, rest.1)
 

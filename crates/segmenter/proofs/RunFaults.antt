@@ -53,9 +53,9 @@ source_by s fault reported end (inl (memory, want)) r e = absurd (let clash : ru
 source_by s fault reported end (inr is) (inl memory) e = absurd (is.1 memory)
 source_by s fault reported end (inr is) (inr cause) e = let same : run.Source fault ≡ run.Source reported = sym is.0 ∙ e in subst (IsCompilationCause s) (ap (fault_or fault) same) cause
 
-pub source_told : (s : Sources) (fault reported : SourceFault) (end : RunFault) → IsRunFaultFor run.Source fault end → IsMemoryOr fault (IsCompilationCause s fault)
+pub source_reported : (s : Sources) (fault reported : SourceFault) (end : RunFault) → IsRunFaultFor run.Source fault end → IsMemoryOr fault (IsCompilationCause s fault)
     → ◌≡◌ {A = Result ℕ RunFault} (Err end) (Err (run.Source reported)) → IsCompilationCause s reported
-source_told s fault reported end ends r e = source_by s fault reported end ends.either r (same_end end (run.Source reported) e)
+source_reported s fault reported end ends r e = source_by s fault reported end ends.either r (same_end end (run.Source reported) e)
 
 no_user_by : (fault reported : SourceFault) (i : ℕ) (end : RunFault) → ((end ≡ run.Memory 0) × (fault.kind ≡ Memory)) ⊎ ((end ≡ run.Source fault) × (fault.kind ≡ Memory → ⊥)) → end ≡ run.UserSource i reported → ⊥
 no_user_by fault reported i end (inl (memory, want)) e = let clash : run.Memory 0 ≡ run.UserSource i reported = sym memory ∙ e in cc
@@ -106,16 +106,16 @@ users_are_early system users (run.TooLong line) r = absurd r
 users_are_early system users (run.InputTooLong line) r = absurd r
 users_are_early system users (run.Memory line) r = r
 
-pub users_tell_no_source : (system : Tables) (users : List (List (List ℕ))) (end : RunFault) (reported : SourceFault) → IsUsersError system users end
+pub users_report_no_source : (system : Tables) (users : List (List (List ℕ))) (end : RunFault) (reported : SourceFault) → IsUsersError system users end
     → ◌≡◌ {A = Result ℕ RunFault} (Err end) (Err (run.Source reported)) → ⊥
-users_tell_no_source system users end reported r e = subst (IsUsersError system users) (same_end end (run.Source reported) e) r
+users_report_no_source system users end reported r e = subst (IsUsersError system users) (same_end end (run.Source reported) e) r
 
 compile_to : (s : Sources) (dict : List ℕ) → IsDictOf s dict → CompileTo s (image_tables dict)
 compile_to s dict d = record { have = d.2.have; few_features = d.2.compiled.few_features }
 
-pub users_told : (s : Sources) (dict : List ℕ) (users : List (List (List ℕ))) (end : RunFault) (i : ℕ) (reported : SourceFault) → IsDictOf s dict → IsUsersError (image_tables dict) users end
+pub users_reported : (s : Sources) (dict : List ℕ) (users : List (List (List ℕ))) (end : RunFault) (i : ℕ) (reported : SourceFault) → IsDictOf s dict → IsUsersError (image_tables dict) users end
     → ◌≡◌ {A = Result ℕ RunFault} (Err end) (Err (run.UserSource i reported)) → IsUsersCause s users i reported
-users_told s dict users end i reported d r e =
+users_reported s dict users end i reported d r e =
     (image_tables dict, compile_to s dict d, subst (IsUsersError (image_tables dict) users) (same_end end (run.UserSource i reported) e) r)
 
 -- ---- tables of the same kind and sizes accept the same user lexicons

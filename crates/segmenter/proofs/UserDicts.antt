@@ -14,7 +14,7 @@ use Rattle.mj_model.specs.FirstFault.{IsMemoryOr}
 use Rattle.image_format.specs.ImageMeaning.{image_tables}
 use Rattle.dict_compile.specs.SourceOverlays.{IsOfUser, UserCompileTo}
 use Rattle.mj_model.specs.Tables.{Tables}
-use Rattle.dict_compile.proofs.UserLemmas.{not_both_for, user_told_for}
+use Rattle.dict_compile.proofs.UserLemmas.{not_both_for, user_reported_for}
 use Rattle.segmenter.specs.SourceFaults.{IsRunFaultFor}
 use Rattle.segmenter.specs.SourceDicts.{IsReportedFor, IsUserDictOf, IsUsersError, LacksCells, lexicons_of, users_of}
 
@@ -50,42 +50,42 @@ module _ (system : Tables) where
   module _ (users : List (List (List ℕ))) (i : ℕ) (lexicons : List (List ℕ)) (there : slice_get users i ≡ Some lexicons)
       (before : (j : ℕ) (others : List (List ℕ)) → j < i → slice_get users j ≡ Some others → (t : Tables) × UserCompileTo system others t)
       (fault : SourceFault) (reported : RunFault) (ends : IsRunFaultFor (run.UserSource i) fault reported) (rejected : IsMemoryOr fault (IsUserCause system lexicons fault)) where
-    refused_by : ((reported ≡ run.Memory 0) × (fault.kind ≡ Memory)) ⊎ ((reported ≡ run.UserSource i fault) × (fault.kind ≡ Memory → ⊥))
+    rejected_by : ((reported ≡ run.Memory 0) × (fault.kind ≡ Memory)) ⊎ ((reported ≡ run.UserSource i fault) × (fault.kind ≡ Memory → ⊥))
         → IsMemoryOr fault (IsUserCause system lexicons fault) → IsUsersError system users reported
-    refused_by (inl (memory, want)) r = subst (IsUsersError system users) (sym memory) refl
-    refused_by (inr is) (inl memory) = absurd (is.1 memory)
-    refused_by (inr is) (inr cause) =
+    rejected_by (inl (memory, want)) r = subst (IsUsersError system users) (sym memory) refl
+    rejected_by (inr is) (inl memory) = absurd (is.1 memory)
+    rejected_by (inr is) (inr cause) =
         subst (IsUsersError system users) (sym is.0) (record { lexicons = lexicons; there = there; fault_is = cause; before_compile = before })
 
     -- the rejection has its cause
-    pub users_refusal : IsUsersError system users reported
-    users_refusal = refused_by ends.either rejected
+    pub users_error : IsUsersError system users reported
+    users_error = rejected_by ends.either rejected
 
-    told_here : (first : SourceFault) → IsUserFault system lexicons first → ((reported ≡ run.Memory 0) × (fault.kind ≡ Memory)) ⊎ ((reported ≡ run.UserSource i fault) × (fault.kind ≡ Memory → ⊥))
+    reported_here : (first : SourceFault) → IsUserFault system lexicons first → ((reported ≡ run.Memory 0) × (fault.kind ≡ Memory)) ⊎ ((reported ≡ run.UserSource i fault) × (fault.kind ≡ Memory → ⊥))
         → (fault ≡ first) ⊎ ((fault.kind ≡ Memory) ⊎ (fault.kind ≡ ArrayFull)) → IsReportedFor (run.UserSource i first) reported
-    told_here first h (inl (memory, want)) t = inr (inl memory)
-    told_here first h (inr is) (inl same) = inl (is.0 ∙ ap (run.UserSource i) same)
-    told_here first h (inr is) (inr (inl memory)) = absurd (is.1 memory)
-    told_here first h (inr is) (inr (inr full)) = inr (inr (subst LacksCells (sym is.0) full))
+    reported_here first h (inl (memory, want)) t = inr (inl memory)
+    reported_here first h (inr is) (inl same) = inl (is.0 ∙ ap (run.UserSource i) same)
+    reported_here first h (inr is) (inr (inl memory)) = absurd (is.1 memory)
+    reported_here first h (inr is) (inr (inr full)) = inr (inr (subst LacksCells (sym is.0) full))
 
-    told_later : (first : RunFault) (t : Tables) → UserCompileTo system lexicons t → ((reported ≡ run.Memory 0) × (fault.kind ≡ Memory)) ⊎ ((reported ≡ run.UserSource i fault) × (fault.kind ≡ Memory → ⊥))
+    reported_later : (first : RunFault) (t : Tables) → UserCompileTo system lexicons t → ((reported ≡ run.Memory 0) × (fault.kind ≡ Memory)) ⊎ ((reported ≡ run.UserSource i fault) × (fault.kind ≡ Memory → ⊥))
         → IsMemoryOr fault (IsUserCause system lexicons fault) → IsReportedFor first reported
-    told_later first t c (inl (memory, want)) r = inr (inl memory)
-    told_later first t c (inr is) (inl memory) = absurd (is.1 memory)
-    told_later first t c (inr is) (inr (inl cause)) = absurd (not_both_for system lexicons t fault c.have c.few_features cause)
-    told_later first t c (inr is) (inr (inr full)) = inr (inr (subst LacksCells (sym is.0) (ap (λ (f : SourceFault). f.kind) full.3.1)))
+    reported_later first t c (inl (memory, want)) r = inr (inl memory)
+    reported_later first t c (inr is) (inl memory) = absurd (is.1 memory)
+    reported_later first t c (inr is) (inr (inl cause)) = absurd (not_both_for system lexicons t fault c.have c.few_features cause)
+    reported_later first t c (inr is) (inr (inr full)) = inr (inr (subst LacksCells (sym is.0) (ap (λ (f : SourceFault). f.kind) full.3.1)))
 
     first_by : (k : ℕ) (first : SourceFault) → IsOfUser (IsUserFault system) system users k first → (k ≡ i) ⊎ ((k < i) ⊎ (i < k)) → IsReportedFor (run.UserSource k first) reported
     first_by k first h (inl same) =
         let l : h.lexicons ≡ lexicons = same_Some h.lexicons lexicons (sym h.there ∙ ap (slice_get users) same ∙ there) in
         let f : IsUserFault system lexicons first = subst (λ ls. IsUserFault system ls first) l h.fault_is in
-        subst (λ n. IsReportedFor (run.UserSource n first) reported) (sym same) (told_here first f ends.either (user_told_for system lexicons first fault f rejected))
+        subst (λ n. IsReportedFor (run.UserSource n first) reported) (sym same) (reported_here first f ends.either (user_reported_for system lexicons first fault f rejected))
     first_by k first h (inr (inl less)) =
         let c = before k h.lexicons less h.there in
         absurd (not_both_for system h.lexicons c.0 first c.1.have c.1.few_features h.fault_is)
     first_by k first h (inr (inr more)) =
         let c = h.before_compile i lexicons more there in
-        told_later (run.UserSource k first) c.0 c.1 ends.either rejected
+        reported_later (run.UserSource k first) c.0 c.1 ends.either rejected
 
     -- the first error is reported
     pub users_first : (k : ℕ) (first : SourceFault) → IsOfUser (IsUserFault system) system users k first → IsReportedFor (run.UserSource k first) reported
@@ -131,8 +131,8 @@ module _ (system : Tables) where
         before_compile (users_of users) dicts i
         (subst (λ us. AllZip (IsUserDictOf system) us dicts) (sym (take-map (λ (lexicons : Given). lexicons_of lexicons.now) i users)) so_far)
 
-    pub user_refused : IsUsersError system (users_of users) reported
-    user_refused = users_refusal (users_of users) i (lexicons_of (get_or users i d).now) (there_in users i d low) so_far_compile fault reported ends rejected
+    pub user_error_first : IsUsersError system (users_of users) reported
+    user_error_first = users_error (users_of users) i (lexicons_of (get_or users i d).now) (there_in users i d low) so_far_compile fault reported ends rejected
 
     pub user_first : (k : ℕ) (first : SourceFault) → IsOfUser (IsUserFault system) system (users_of users) k first → IsReportedFor (run.UserSource k first) reported
     user_first = users_first (users_of users) i (lexicons_of (get_or users i d).now) (there_in users i d low) so_far_compile fault reported ends rejected

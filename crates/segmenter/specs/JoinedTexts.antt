@@ -7,7 +7,7 @@ use Rattle.out_format.specs.Formats.{Format}
 use Rattle.line_stream.specs.declared.line_fault.LineFault.{LineFault}
 use Rattle.out_format.specs.PrintedLines.{LineResult}
 
--- `out` is the output of the text, and `bad` is its first invalid line
+-- `out` is the output of the text, and `bad` is its first invalid line, if there is one
 abbrev pub OutputOf : Overlay → Format → List ℕ → List ℕ → Option (BadLine LineFault) → Type 0
 OutputOf o format text out bad = Output (LineResult o format) 1 (text_lines text) out bad
 
@@ -15,7 +15,7 @@ OutputOf o format text out bad = Output (LineResult o format) 1 (text_lines text
 abbrev pub EndsLine : List ℕ → Type 0
 EndsLine text = unfinished_line text ≡ []
 
--- the invalid line, numbered after `lines` further lines
+-- the invalid line, if there is one, with `lines` added to its number
 abbrev pub counted_after : ℕ → Option (BadLine LineFault) → Option (BadLine LineFault)
 counted_after lines None = None
 counted_after lines (Some bad) = Some (record { number = lines + bad.number; fault = bad.fault })

@@ -7,9 +7,9 @@ use Rattle.mj_model.specs.Tables.{Overlay}
 use Rattle.out_format.specs.Formats.{Format}
 use Rattle.out_format.specs.Segmentation.{IsSegmentation}
 
--- the reader's whole remaining text, of `lines` lines, was read; its segmentation was written and
--- then flushed once. If it is not known which bytes the reader has or the writer holds (`left` or
--- `held` is None), then this is so of some text
+-- the reader's whole remaining text, of `lines` lines, was read, and its segmentation was written
+-- and then flushed once. If the bytes of the reader or of the writer are not known, this is true of
+-- some text
 pub record WroteSegmentation (o : Overlay) (format : Format) (reader_before reader_after : ReaderState) (writer_before writer_after : WriterState) (lines : ℕ) : Type 0 where
   pub text : List ℕ
   pub output : List ℕ

@@ -20,8 +20,7 @@ pub record RunOverSources (s : Sources) (users : List (List (List ℕ))) (groupi
   pub covered : CoversTexts overlay
   pub ran : RunOutcome (LineResult overlay format) READS_MAX from to before after result
 
--- the run ended before its first read: the sources or a user's lexicons are invalid, or memory ran
--- out
+-- the run ended before its first read: the sources or user lexicons are invalid, or memory ran out
 abbrev pub EndedBeforeReading : Result ℕ RunFault → Type 0
 EndedBeforeReading (Ok lines) = ⊥
 EndedBeforeReading (Err (run.Source fault)) = Unit {0}

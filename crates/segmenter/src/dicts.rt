@@ -10,7 +10,7 @@ ghost use Rattle.mj_model.specs.FirstFault.{IsMemoryOr};
 ghost use Rattle.image_format.specs.ImageMeaning.{image_tables};
 ghost use Rattle.dict_compile.specs.SourceOverlays.{IsOfUser};
 ghost use Rattle.mj_model.specs.Tables.{System};
-ghost use Rattle.dict_compile.specs.Results.{IsRejectedFor as IsCompileRefusedFor};
+ghost use Rattle.dict_compile.specs.Results.{IsRejectedFor as IsCompileRejectedFor};
 ghost use Rattle.segmenter.specs.SourceDicts.{IsDictOf, IsUserDictOf, IsUsersError, IsRejectedFor, lexicons_of, users_of};
 
 use crate::source_faults::run_fault_of;
@@ -19,13 +19,14 @@ use dict_image::{Dict, load_written};
 use mj_model::{RunFault, SourceFault, Sources};
 use std::alloc::{AllocError, Global};
 
-/// Compiles `sources` into a system dictionary, in memory.
+/// Compiles `sources` into a system dictionary, in memory. Fails with their first error, or if
+/// memory or the cells of the double array run out.
 pub fn system_dict(alloc: Global, sources: &Sources<'_>) -> Result<Dict, SourceFault>
     ensures dict { IfOk result (λ dict. IsDictOf sources.now dict) }
     ensures rejected { IfErr result (λ fault.
         IsMemoryOr fault (IsCompilationCause sources.now fault)) }
     ensures first { (fault : FaultOf) → IsCompilationFault sources.now fault
-        → IsCompileRefusedFor fault result }
+        → IsCompileRejectedFor fault result }
 {
     let compiled = compile(alloc, sources)?;
     Ok(load_written(alloc, compiled.image)?)

@@ -25,8 +25,8 @@ use word_lookup::Dictionaries;
 /// writes its words to `writer` in `format`. Returns the number of lines.
 ///
 /// Each element of `users` holds the lexicons of one user dictionary. `grouping` is the number of
-/// characters that may follow the first one of a grouped unknown word, `GROUPING_DEFAULT` by
-/// default. Reader and writer are used as in `segment`.
+/// characters that may follow the first one of a grouped unknown word, at most `GROUPING_MAX` and
+/// usually `GROUPING_DEFAULT`. Reader and writer are used as in `segment`.
 pub fn run_sources<R: TextIn, W: TextOut>(
     alloc: Global,
     sources: &Sources<'_>,
@@ -44,7 +44,7 @@ pub fn run_sources<R: TextIn, W: TextOut>(
         × HaveOverlay sources.now (users_of users.now) grouping o
         × WroteSegmentation o format.now (R.state reader.old) (R.state reader.new)
         (W.state writer.old) (W.state writer.new) lines) }
-    // An error of the sources or of a user's lexicons has its cause.
+    // An error of the sources or of user lexicons is reported only if they have that error.
     ensures source { (fault : FaultOf) → result ≡ Err (Source fault)
         → IsCompilationCause sources.now fault }
     ensures user_source { (i : ℕ) (fault : FaultOf) → result ≡ Err (UserSource i fault)

@@ -33,8 +33,8 @@ pub fn segment<R: TextIn, W: TextOut>(
     // Each UTF-8 text has exactly one best path.
     ensures covered { CoversTexts (overlay_of dictionaries.now) }
     // If the result is Ok, the whole text was read, all its lines are valid, and its segmentation
-    // was written and flushed once: for each line the formatted words of its best path. The clause
-    // speaks of some text if it is not known which bytes the reader has or the writer holds.
+    // was written and flushed once: for each line the formatted words of its best path. If it is
+    // not known which bytes the reader has or the writer holds, this is true of some text.
     ensures ok { IfOk result (WroteSegmentation (overlay_of dictionaries.now) format.now
         (R.state reader.old) (R.state reader.new) (W.state writer.old) (W.state writer.new)) }
     // What was read, what was written, how the run ended, and where the reader is.

@@ -17,11 +17,11 @@ use Rattle.viterbi.specs.Search.Nodes.{Node, words_of_surface_nodes, stored_node
 use Rattle.viterbi.specs.Search.StartPositions.{AreAddedFrom, IsPlaceOf}
 use Rattle.viterbi.specs.Search.SearchedText.{IsLatticeOf, SearchedText, nodes_in, word_count, words_before}
 use Rattle.viterbi.specs.Search.PrunedEndNodes.{AreBestEndNodes}
-use Rattle.viterbi.proofs.InterchangeableLemmas.{joins_alike, like_node, twice_as_many}
+use Rattle.viterbi.proofs.InterchangeableLemmas.{predecessors_alike, like_node, twice_as_many}
 use Rattle.viterbi.proofs.SurfaceNodeLemmas.{next_word, no_back, node_here, nodes_push, nodes_stay, rights_push, rights_stay, words_push}
-use Rattle.viterbi.proofs.Choice.{all_followed, least_joins, small_join, small_totals}
+use Rattle.viterbi.proofs.Choice.{all_followed, least_is_predecessor, small_predecessor, small_forward_costs}
 use Rattle.viterbi.proofs.Growth.{grows, word_goes_on, word_there}
-use Rattle.viterbi.proofs.Pushed.{get_front}
+use Rattle.viterbi.proofs.Pushed.{get_prefix}
 use Rattle.viterbi.proofs.PruningLemmas.{best_ends_past, holds_left, least_left}
 use Rattle.viterbi.proofs.WordNumbers.{count_at, next_surface, no_surface, no_word, whole_at, word_at}
 
@@ -44,11 +44,11 @@ module _ (t : SearchedText) (p : StartPosition) (is : IsPlaceOf t p) (number : �
         let same : words_before t p.surfaces.now number (i + 1) ≡ k + 1 = omega arith in
         subst (IsLatticeOf t nodes p.start) same added.lattice
 
-    pub totals : All HasSmallTotal p.ends.now
-    totals =
+    pub small_end_costs : All HasSmallTotal p.ends.now
+    small_end_costs =
         let best = added.ends in
         holds_left best.all p.ends.now best.left HasSmallTotal
-        (small_totals t.words t.connection t.text_length is.source.source nodes p.start (k + 1) p.start best.all is.source.short lattice best.are)
+        (small_forward_costs t.words t.connection t.text_length is.source.source nodes p.start (k + 1) p.start best.all is.source.short lattice best.are)
 
     pub pairs : All (IsFollowedBy t.is_pair w.left) p.ends.now
     pairs =
@@ -60,10 +60,10 @@ module _ (t : SearchedText) (p : StartPosition) (is : IsPlaceOf t p) (number : �
     pub predecessors : (j : Predecessor) → IsLeast t.connection p.ends.now w.left j → IsPredecessor t.words t.connection nodes p.start w.left j
     predecessors j best_predecessor =
         let best = added.ends in
-        least_joins t.words t.connection t.text_length is.source.source nodes p.start (k + 1) p.start w.left best.all j lattice (omega arith) best.are (least_left best.all p.ends.now best.left t.connection w.left j best_predecessor)
+        least_is_predecessor t.words t.connection t.text_length is.source.source nodes p.start (k + 1) p.start w.left best.all j lattice (omega arith) best.are (least_left best.all p.ends.now best.left t.connection w.left j best_predecessor)
 
     pub small : (j : Predecessor) → IsLeast t.connection p.ends.now w.left j → IsWithin (2 ^ 40) j.cost
-    small j best_predecessor = small_join t.words t.connection t.text_length is.source.source nodes p.start w.left j is.source.short is.within (predecessors j best_predecessor)
+    small j best_predecessor = small_predecessor t.words t.connection t.text_length is.source.source nodes p.start w.left j is.source.short is.within (predecessors j best_predecessor)
 
     module _ (last : EndsWith t p.surfaces.now number by_surface) where
       -- the next node of the groups is the word's
@@ -137,7 +137,7 @@ module _ (t : SearchedText) (p : StartPosition) (is : IsPlaceOf t p) (number : �
     copy_here n less =
         let enough = many in
         let low : from + n < length backpointers = omega (arith, enough, less) in
-        get_front backpointers (take n copies) (from + n) low ∙ slice_get-get_or backpointers (from + n) no_back low ∙ ap Some (sym (get_or-drop from backpointers n no_back))
+        get_prefix backpointers (take n copies) (from + n) low ∙ slice_get-get_or backpointers (from + n) no_back low ∙ ap Some (sym (get_or-drop from backpointers n no_back))
 
     added_copy : (n i : ℕ) → n + i + 1 ≡ its.count → AreAddedFrom t p number (i + 1) by_surface (with_copies n) → AreAddedFrom t p number i by_surface (with_copies (n + 1))
     added_copy n i sum so_far =
@@ -154,7 +154,7 @@ module _ (t : SearchedText) (p : StartPosition) (is : IsPlaceOf t p) (number : �
         let here = copy_here n less in
         let node = node_here words (with_copies n) (from + n) like.word (copy n) like.here here in
         let k = words_before t p.surfaces.now number (i + 1) in
-        let found = joins_alike t.words t.connection (nodes_in t by_surface (with_copies n)) p.start k (from + n) like.word w (copy n) so_far.lattice node like.there like.alike in
+        let found = predecessors_alike t.words t.connection (nodes_in t by_surface (with_copies n)) p.start k (from + n) like.word w (copy n) so_far.lattice node like.there like.alike in
         let right = so_far.rights (from + n) like.word (copy n) like.here here ∙ like.alike.right in
         subst (AreAddedFrom t p number i by_surface) (sym (more_copies n less)) (one_more by_surface (with_copies n) i w at so_far last (copy n) found.predecessor found.is right found.predecessors)
 

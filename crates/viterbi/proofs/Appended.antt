@@ -4,12 +4,12 @@ use Rattle.std.proofs.lemmas.Option.{same_Some, slice_get_within}
 use Rattle.mj_model.specs.declared.word.Word.{Word}
 use Rattle.mj_model.specs.Order.{IsEarlierIn}
 use Rattle.mj_model.specs.Pruned.{ArePartOf}
-use Rattle.viterbi.proofs.Pushed.{Contains_from_get, get_from_Contains, get_front}
+use Rattle.viterbi.proofs.Pushed.{Contains_from_get, get_from_Contains, get_prefix}
 
-pub get_behind : {X : Type 0} (xs ys : List X) (k i : ℕ) → i ≡ length xs + k → slice_get (xs ++ ys) i ≡ slice_get ys k
-get_behind [] ys k i is = ap (slice_get ys) (omega (arith, is))
-get_behind (x ∷ xs) ys k zero is = absurd (omega (arith, is))
-get_behind (x ∷ xs) ys k (suc i) is = get_behind xs ys k i (omega (arith, is))
+pub get_after : {X : Type 0} (xs ys : List X) (k i : ℕ) → i ≡ length xs + k → slice_get (xs ++ ys) i ≡ slice_get ys k
+get_after [] ys k i is = ap (slice_get ys) (omega (arith, is))
+get_after (x ∷ xs) ys k zero is = absurd (omega (arith, is))
+get_after (x ∷ xs) ys k (suc i) is = get_after xs ys k i (omega (arith, is))
 
 pub get_cases : {X : Type 0} (xs ys : List X) (i : ℕ) (x : X) → slice_get (xs ++ ys) i ≡ Some x → (slice_get xs i ≡ Some x) ⊎ ((k : ℕ) × (i ≡ length xs + k) × (slice_get ys k ≡ Some x))
 get_cases [] ys i x at = inr (i, omega arith, at)
@@ -20,10 +20,10 @@ get_cases (z ∷ xs) ys (suc i) x at = elim (get_cases xs ys i x at) [
 ]
 
 pub get_left : {X : Type 0} (xs ys : List X) (i : ℕ) (x : X) → slice_get xs i ≡ Some x → slice_get (xs ++ ys) i ≡ Some x
-get_left xs ys i x at = get_front xs ys i (slice_get_within xs i x at) ∙ at
+get_left xs ys i x at = get_prefix xs ys i (slice_get_within xs i x at) ∙ at
 
 pub get_right : {X : Type 0} (xs ys : List X) (k : ℕ) (x : X) → slice_get ys k ≡ Some x → slice_get (xs ++ ys) (length xs + k) ≡ Some x
-get_right xs ys k x at = get_behind xs ys k (length xs + k) refl ∙ at
+get_right xs ys k x at = get_after xs ys k (length xs + k) refl ∙ at
 
 pub contains_left : {X : Type 0} (xs ys : List X) (x : X) → Contains xs x → Contains (xs ++ ys) x
 contains_left xs ys x h = let f = get_from_Contains xs x h in Contains_from_get (xs ++ ys) f.0 x (get_left xs ys f.0 x f.1)
@@ -51,8 +51,8 @@ map_at f (z ∷ xs) (suc i) x at = map_at f xs i x at
 
 -- ---- which words come before which
 
-pub stands_left : (vs ws : List Word) (v w : Word) → IsEarlierIn vs v w → IsEarlierIn (vs ++ ws) v w
-stands_left vs ws v w s = record {
+pub appears_left : (vs ws : List Word) (v w : Word) → IsEarlierIn vs v w → IsEarlierIn (vs ++ ws) v w
+appears_left vs ws v w s = record {
   first = s.first;
   second = s.second;
   in_order = s.in_order;
@@ -60,8 +60,8 @@ stands_left vs ws v w s = record {
   has_second = get_left vs ws s.second w s.has_second;
 }
 
-pub stands_right : (vs ws : List Word) (v w : Word) → IsEarlierIn ws v w → IsEarlierIn (vs ++ ws) v w
-stands_right vs ws v w s = let order = s.in_order in record {
+pub appears_right : (vs ws : List Word) (v w : Word) → IsEarlierIn ws v w → IsEarlierIn (vs ++ ws) v w
+appears_right vs ws v w s = let order = s.in_order in record {
   first = length vs + s.first;
   second = length vs + s.second;
   in_order = omega (arith, order);
@@ -69,8 +69,8 @@ stands_right vs ws v w s = let order = s.in_order in record {
   has_second = get_right vs ws s.second w s.has_second;
 }
 
-pub stands_across : (vs ws : List Word) (v w : Word) → Contains vs v → Contains ws w → IsEarlierIn (vs ++ ws) v w
-stands_across vs ws v w h k =
+pub appears_across : (vs ws : List Word) (v w : Word) → Contains vs v → Contains ws w → IsEarlierIn (vs ++ ws) v w
+appears_across vs ws v w h k =
     let f = get_from_Contains vs v h in
     let g = get_from_Contains ws w k in
     let low = slice_get_within vs f.0 v f.1 in
@@ -91,8 +91,8 @@ part_of_both qs ss bs rs p q = record {
   ];
   in_order = λ v w s. elim (get_cases ss rs s.first v s.has_first) [
     | inl v_front ↦ elim (get_cases ss rs s.second w s.has_second) [
-      | inl w_front ↦ stands_left qs bs v w (p.in_order v w (record { first = s.first; second = s.second; in_order = s.in_order; has_first = v_front; has_second = w_front }))
-      | inr w_behind ↦ stands_across qs bs v w (p.among v (Contains_from_get ss s.first v v_front)) (q.among w (Contains_from_get rs w_behind.0 w w_behind.2))
+      | inl w_front ↦ appears_left qs bs v w (p.in_order v w (record { first = s.first; second = s.second; in_order = s.in_order; has_first = v_front; has_second = w_front }))
+      | inr w_behind ↦ appears_across qs bs v w (p.among v (Contains_from_get ss s.first v v_front)) (q.among w (Contains_from_get rs w_behind.0 w w_behind.2))
     ]
     | inr v_behind ↦ elim (get_cases ss rs s.second w s.has_second) [
       | inl w_front ↦
@@ -104,7 +104,7 @@ part_of_both qs ss bs rs p q = record {
           let order = s.in_order in
           let is = v_behind.1 in
           let also = w_behind.1 in
-          stands_right qs bs v w (q.in_order v w (record { first = v_behind.0; second = w_behind.0; in_order = omega (arith, order, is, also); has_first = v_behind.2; has_second = w_behind.2 }))
+          appears_right qs bs v w (q.in_order v w (record { first = v_behind.0; second = w_behind.0; in_order = omega (arith, order, is, also); has_first = v_behind.2; has_second = w_behind.2 }))
     ]
   ];
 }

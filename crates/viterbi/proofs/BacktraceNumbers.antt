@@ -65,10 +65,10 @@ numbers_fall backpointers back (Some m) (x ∷ js) n (suc a) (suc b) i j less at
 pub nodes_from_start : (f : Surface → List Word) (by_surface : List SurfaceNodes) (backpointers : List Backpointer) (link : Option ℕ) (js : List ℕ) → AreSurfaceNodes f by_surface → length backpointers ≡ length (node_words f by_surface) → StoredLinksGoBack backpointers → IsBelow link (length backpointers)
     → AreBacktraceNumbers backpointers link js → AreNodesFrom f by_surface 0 js
 nodes_from_start f by_surface backpointers link js are all back below n = record {
-  bundles_are = are;
+  groups_are = are;
   falling = numbers_fall backpointers back link js n;
   within = λ a i at. let low = numbers_below backpointers back link (length backpointers) js below n a i at in omega (arith, low, all);
-  next_ones = λ a i at. omega arith;
+  from_first = λ a i at. omega arith;
 }
 
 -- ---- the words

@@ -80,8 +80,8 @@ module _ (words : ℕ → List Word) (conn : ℕ → ℕ → ℤ) (len : ℕ) (s
         absurd (omega (arith, low, e))
 
     -- none comes before the first of them
-    pub rest_begins : (first : ℕ) (o : Option ℤ) → IsFirstFrom ws w.end first → IsLeastOf (CostsToEosBelow words conn ws 0 w) o → IsLeastOf (CostsToEosBelow words conn ws first w) o
-    rest_begins first o f h =
+    pub backward_begins : (first : ℕ) (o : Option ℤ) → IsFirstFrom ws w.end first → IsLeastOf (CostsToEosBelow words conn ws 0 w) o → IsLeastOf (CostsToEosBelow words conn ws first w) o
+    backward_begins first o f h =
         least_same (CostsToEosBelow words conn ws 0 w) (CostsToEosBelow words conn ws first w) o
         (λ c p. (p.0, p.1, p.2, p.3, below_more ws 0 first p.0 (omega arith) p.4, p.5))
         (λ c q. (q.0, q.1, q.2, q.3, no_head first q.0 q.1 f q.2 q.4, q.5))
@@ -99,8 +99,8 @@ module _ (words : ℕ → List Word) (conn : ℕ → ℕ → ℤ) (len : ℕ) (s
         ]
 
     -- and all come before the first word of the next position
-    pub rest_ends : (next_ones : ℕ) (o : Option ℤ) → IsReached words w → IsFirstFrom ws (w.end + 1) next_ones → IsLeastOf (CostsToEosBelow words conn ws next_ones w) o → IsLeastOf (CostsToEos words conn w) o
-    rest_ends next_ones o b f h =
+    pub backward_ends : (next_ones : ℕ) (o : Option ℤ) → IsReached words w → IsFirstFrom ws (w.end + 1) next_ones → IsLeastOf (CostsToEosBelow words conn ws next_ones w) o → IsLeastOf (CostsToEos words conn w) o
+    backward_ends next_ones o b f h =
         least_same (CostsToEosBelow words conn ws next_ones w) (CostsToEos words conn w) o
         (λ c p. (p.0, p.1, p.2, p.3, p.5))
         (λ c q. (q.0, q.1, q.2, q.3, head_before next_ones q.0 q.1 b f q.2, q.4))
@@ -153,9 +153,9 @@ module _ (words : ℕ → List Word) (conn : ℕ → ℕ → ℤ) (len : ℕ) (s
 -- ---- in the list
 
 -- what follows one more word is known
-pub rest_written : (words : ℕ → List Word) (conn : ℕ → ℕ → ℤ) (ws : List Word) (backward_costs : List (Option ChainCost)) (i : ℕ) (o : Option ChainCost)
+pub backward_written : (words : ℕ → List Word) (conn : ℕ → ℕ → ℤ) (ws : List Word) (backward_costs : List (Option ChainCost)) (i : ℕ) (o : Option ChainCost)
     → ((w : Word) → slice_get ws i ≡ Some w → IsLeastOf (CostsToEos words conn w) (number_of o)) → AreBackwardCosts words conn ws (i + 1) backward_costs → AreBackwardCosts words conn ws i (set backward_costs i o)
-rest_written words conn ws backward_costs i o is a = record {
+backward_written words conn ws backward_costs i o is a = record {
   long = length-set backward_costs i o ∙ a.long;
   known = λ k w p low at_w at_p. elim (get_written backward_costs i k o p at_p) [
     | inl new ↦

@@ -13,12 +13,12 @@ use Rattle.viterbi.specs.Nodes.LatticeNodes.{CostsThrough, CostsUpTo}
 use Rattle.viterbi.specs.Nodes.Least.{IsLeastOf}
 use Rattle.viterbi.specs.Nodes.BackwardCosts.{CostsToEos}
 use Rattle.viterbi.proofs.PathParts.{parts_through, path_through}
-use Rattle.viterbi.proofs.JoinedLemmas.{IsSplit, cost_front, split_at}
+use Rattle.viterbi.proofs.JoinedLemmas.{IsSplit, cost_prefix, split_at}
 
 module _ (words : ℕ → List Word) (conn : ℕ → ℕ → ℤ) (len : ℕ) (are : AreWords words len) where
   module _ (w : Word) (total : ℤ) (up_to : IsLeastOf (CostsUpTo words conn w) (Some total)) where
-    pub rest_least : (cost : ℤ) → IsLeastOf (CostsThrough words conn w) (Some cost) → IsLeastOf (CostsToEos words conn w) (Some (cost -ℤ total))
-    rest_least cost through =
+    pub backward_least : (cost : ℤ) → IsLeastOf (CostsThrough words conn w) (Some cost) → IsLeastOf (CostsToEos words conn w) (Some (cost -ℤ total))
+    backward_least cost through =
         let parts = parts_through words conn len are w cost through.0 in
         let a = parts.0 in
         let b = parts.1 in
@@ -30,8 +30,8 @@ module _ (words : ℕ → List Word) (conn : ℕ → ℕ → ℤ) (len : ℕ) (a
           λ d on. let more = through.1 (total +ℤ d) (path_through words conn len are w total d up_to.0 on) in omega (arith, ints, more),
         )
 
-    pub no_rest : IsLeastOf (CostsThrough words conn w) None → (d : ℤ) → CostsToEos words conn w d → ⊥
-    no_rest none d on = none (total +ℤ d) (path_through words conn len are w total d up_to.0 on)
+    pub no_backward : IsLeastOf (CostsThrough words conn w) None → (d : ℤ) → CostsToEos words conn w d → ⊥
+    no_backward none d on = none (total +ℤ d) (path_through words conn len are w total d up_to.0 on)
 
   module _ (best : List Word) (is_best : IsBestPath words conn best) where
     -- no path costs less
@@ -46,29 +46,29 @@ module _ (words : ℕ → List Word) (conn : ℕ → ℕ → ℤ) (len : ℕ) (a
       pub split : IsSplit words best w is_best.to
       split = split_at words len are best is_best.to w is_best.path.chain has
 
-      abbrev pub front_cost : ℤ
-      front_cost = cost_to conn (w ∷ split.before)
+      abbrev pub prefix_cost : ℤ
+      prefix_cost = cost_to conn (w ∷ split.before)
 
       abbrev pub back_cost : ℤ
       back_cost = cost_after conn w.right split.after
 
-      sum_is : path_cost conn best ≡ front_cost +ℤ back_cost
-      sum_is = ap (path_cost conn) split.is ∙ cost_front conn (w ∷ split.before) split.after
+      sum_is : path_cost conn best ≡ prefix_cost +ℤ back_cost
+      sum_is = ap (path_cost conn) split.is ∙ cost_prefix conn (w ∷ split.before) split.after
 
       on : CostsToEos words conn w back_cost
-      on = (split.after, is_best.to, split.is_successor, is_best.path.longest, refl)
+      on = (split.after, is_best.to, split.suffix_chain, is_best.path.longest, refl)
 
-      pub total_on_best : total ≡ front_cost
+      pub total_on_best : total ≡ prefix_cost
       total_on_best =
-          let low = up_to.1 front_cost (split.before, split.is_predecessor, refl) in
+          let low = up_to.1 prefix_cost (split.before, split.prefix_chain, refl) in
           let through = path_through words conn len are w total back_cost up_to.0 on in
           let least = best_least through.0 through.1 through.2 in
           let is = through.4 in
           let sum = sum_is in
           omega (arith, ints, low, least, is, sum)
 
-      pub rest_on_best : (cost : ℤ) → IsLeastOf (CostsThrough words conn w) (Some cost) → cost ≡ total +ℤ back_cost
-      rest_on_best cost through =
+      pub backward_on_best : (cost : ℤ) → IsLeastOf (CostsThrough words conn w) (Some cost) → cost ≡ total +ℤ back_cost
+      backward_on_best cost through =
           let low = through.1 (path_cost conn best) (best, is_best.to, is_best.path, has, refl) in
           let path = through.0 in
           let least = best_least path.0 path.1 path.2 in

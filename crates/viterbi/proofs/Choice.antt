@@ -27,7 +27,7 @@ use Rattle.viterbi.specs.Search.Nodes.{AreSurfaceNodes, IsLatest, Node, link_of,
 use Rattle.viterbi.specs.Search.Lattice.{IsProcessed, IsLattice, IsPredecessor, NoChain, IsBacktrace}
 use Rattle.mj_model.specs.Searchable.{MayFollow}
 use Rattle.mj_model.proofs.ReversedChainLemmas.{best_empty, best_among}
-use Rattle.viterbi.proofs.SurfaceNodeLemmas.{bundle_node}
+use Rattle.viterbi.proofs.SurfaceNodeLemmas.{group_node}
 
 -- BOS alone
 only_bos : (r : ℕ) (e : EndNode) → slice_get (bos_end_node ∷ []) r ≡ Some e → bos_end_node ≡ e
@@ -69,12 +69,12 @@ module _ (words : ℕ → List Word) (conn : ℕ → ℕ → ℤ) (len : ℕ) (s
       let o = h.each r e at in
       subst HasSmallTotal (sym o.is) (small_total nodes p k o.number o.node short l o.here)
 
-  pub small_totals : (nodes : List Node) (p k place : ℕ) (ends : List EndNode) → len ≤ 2 ^ 20 → IsLattice words conn nodes p k → AreEndNodes nodes place ends → All HasSmallTotal ends
-  small_totals nodes p k place ends short l are i d within = small_end nodes p k place ends i (get_or ends i d) short l are (slice_get-get_or ends i d within)
+  pub small_forward_costs : (nodes : List Node) (p k place : ℕ) (ends : List EndNode) → len ≤ 2 ^ 20 → IsLattice words conn nodes p k → AreEndNodes nodes place ends → All HasSmallTotal ends
+  small_forward_costs nodes p k place ends short l are i d within = small_end nodes p k place ends i (get_or ends i d) short l are (slice_get-get_or ends i d within)
 
   -- the cost of a chain to a predecessor is small
-  pub small_join : (nodes : List Node) (p left : ℕ) (j : Predecessor) → len ≤ 2 ^ 20 → p < len → IsPredecessor words conn nodes p left j → IsWithin (2 ^ 40) j.cost
-  small_join nodes p left j short at predecessor =
+  pub small_predecessor : (nodes : List Node) (p left : ℕ) (j : Predecessor) → len ≤ 2 ^ 20 → p < len → IsPredecessor words conn nodes p left j → IsWithin (2 ^ 40) j.cost
+  small_predecessor nodes p left j short at predecessor =
       let s = small_joined predecessor.chain p left predecessor.best.chain in
       let e = predecessor.cost_is in
       (omega (arith, ints, s.0, e, at, short), omega (arith, ints, s.1, e, at, short))
@@ -85,9 +85,9 @@ module _ (words : ℕ → List Word) (conn : ℕ → ℕ → ℤ) (len : ℕ) (s
   Lattice nodes p k = IsLattice words conn nodes p k
 
   -- of two nodes the later one is preferred
-  stands_first : (nodes : List Node) (p k i j : ℕ) (m n : Node) → Lattice nodes p k → slice_get nodes i ≡ Some m → slice_get nodes j ≡ Some n → j ≤ i
+  appears_first : (nodes : List Node) (p k i j : ℕ) (m n : Node) → Lattice nodes p k → slice_get nodes i ≡ Some m → slice_get nodes j ≡ Some n → j ≤ i
       → (m.word ≡ n.word) ⊎ IsPreferred words m.word n.word
-  stands_first nodes p k i j m n l at_i at_j le =
+  appears_first nodes p k i j m n l at_i at_j le =
       elim (cases_lt j i) [
         | inl less ↦ inr (l.order j i n m less at_j at_i)
         | inr more ↦
@@ -111,15 +111,15 @@ module _ (words : ℕ → List Word) (conn : ℕ → ℕ → ℤ) (len : ℕ) (s
   holds_against : (nodes : List Node) (p k i j : ℕ) (m n : Node) (a b : ℤ) → Lattice nodes p k → slice_get nodes i ≡ Some m → slice_get nodes j ≡ Some n
       → (a <ℤ b) ⊎ ((a ≡ b) × (j ≤ i)) → AtLeastAsGood words a m.word b n.word
   holds_against nodes p k i j m n a b l at_i at_j (inl less) = inl less
-  holds_against nodes p k i j m n a b l at_i at_j (inr (same, le)) = inr (same, stands_first nodes p k i j m n l at_i at_j le)
+  holds_against nodes p k i j m n a b l at_i at_j (inr (same, le)) = inr (same, appears_first nodes p k i j m n l at_i at_j le)
 
   -- the other side of the comparison, at a word
   abbrev pub Other : ℕ → Word → List Word → Word → Type 0
   Other left v vs w = (us : List Word) × IsBestTo words conn us w.place w.left × AtLeastAsGood words (cost_with_next conn (v ∷ vs) left) v (cost_with_next conn (w ∷ us) left) w
 
   -- the least end node ends the best chain
-  end_joins : (nodes : List Node) (p k at left : ℕ) (ends : List EndNode) (j : Predecessor) → Lattice nodes p k → at ≤ p → AreEndNodesOf nodes at 0 ends → IsLeast conn ends left j → IsPredecessor words conn nodes at left j
-  end_joins nodes p k at left ends j l upto h best_predecessor =
+  end_is_predecessor : (nodes : List Node) (p k at left : ℕ) (ends : List EndNode) (j : Predecessor) → Lattice nodes p k → at ≤ p → AreEndNodesOf nodes at 0 ends → IsLeast conn ends left j → IsPredecessor words conn nodes at left j
+  end_is_predecessor nodes p k at left ends j l upto h best_predecessor =
       let o = h.each best_predecessor.rank best_predecessor.end best_predecessor.here in
       let n = o.node in
       let b = l.best o.number n o.here in
@@ -157,8 +157,8 @@ module _ (words : ℕ → List Word) (conn : ℕ → ℕ → ℤ) (len : ℕ) (s
       }
 
   -- the empty chain is the best to the start of the text
-  begins_join : (nodes : List Node) (left : ℕ) (j : Predecessor) → j.before ≡ 0 → j.cost ≡ conn 0 left → IsPredecessor words conn nodes 0 left j
-  begins_join nodes left j before cost = record {
+  bos_is_predecessor : (nodes : List Node) (left : ℕ) (j : Predecessor) → j.before ≡ 0 → j.cost ≡ conn 0 left → IsPredecessor words conn nodes 0 left j
+  bos_is_predecessor nodes left j before cost = record {
     chain = [];
     traced = subst (λ (number : ℕ). IsBacktrace nodes (link_of number) []) (sym before) tt;
     best = best_empty words conn len source.are left;
@@ -166,14 +166,14 @@ module _ (words : ℕ → List Word) (conn : ℕ → ℕ → ℤ) (len : ℕ) (s
   }
 
   -- the least end node of a position ends the best chain there
-  pub least_joins : (nodes : List Node) (p k at left : ℕ) (ends : List EndNode) (j : Predecessor) → Lattice nodes p k → at ≤ p → AreEndNodes nodes at ends → IsLeast conn ends left j → IsPredecessor words conn nodes at left j
-  least_joins nodes p k at left ends j l upto (inl bos) best_predecessor =
+  pub least_is_predecessor : (nodes : List Node) (p k at left : ℕ) (ends : List EndNode) (j : Predecessor) → Lattice nodes p k → at ≤ p → AreEndNodes nodes at ends → IsLeast conn ends left j → IsPredecessor words conn nodes at left j
+  least_is_predecessor nodes p k at left ends j l upto (inl bos) best_predecessor =
       let g : slice_get (bos_end_node ∷ []) best_predecessor.rank ≡ Some best_predecessor.end = subst (λ (xs : List EndNode). slice_get xs best_predecessor.rank ≡ Some best_predecessor.end) bos.1 best_predecessor.here in
       let is = only_bos best_predecessor.rank best_predecessor.end g in
       let cost : j.cost ≡ end_cost conn left bos_end_node = best_predecessor.cost_is ∙ ap (end_cost conn left) (sym is) in
       subst (λ (q : ℕ). IsPredecessor words conn nodes q left j) (sym bos.0)
-      (begins_join nodes left j (best_predecessor.before_is ∙ ap (λ (e : EndNode). e.before) (sym is)) (omega (arith, ints, cost)))
-  least_joins nodes p k at left ends j l upto (inr (above, h)) best_predecessor = end_joins nodes p k at left ends j l upto h best_predecessor
+      (bos_is_predecessor nodes left j (best_predecessor.before_is ∙ ap (λ (e : EndNode). e.before) (sym is)) (omega (arith, ints, cost)))
+  least_is_predecessor nodes p k at left ends j l upto (inr (above, h)) best_predecessor = end_is_predecessor nodes p k at left ends j l upto h best_predecessor
 
   -- if no node ends there, no chain does
   pub none_leads : (nodes : List Node) (p k at : ℕ) → Lattice nodes p k → at ≤ p → 0 < at → ((i : ℕ) (m : Node) → slice_get nodes i ≡ Some m → m.word.end ≡ at → ⊥) → NoChain words at
@@ -213,7 +213,7 @@ some_bos nodes ends place start (inr (above, h)) = absurd (omega (arith, start, 
 -- so there are end nodes at a position that some chain reaches
 pub some_reached : (f : Surface → List Word) (by_surface : List SurfaceNodes) (backpointers : List Backpointer) (place bound head : ℕ) (ends : List EndNode) → AreSurfaceNodes f by_surface → length backpointers ≡ length (node_words f by_surface)
     → reached place head ≡ true → IsLatest by_surface place bound (link_of head) → AreEndNodes (nodes_of (node_words f by_surface) backpointers) place ends → 0 < length ends
-some_reached f by_surface backpointers place bound zero ends bundles_are all it_is latest are = some_bos (nodes_of (node_words f by_surface) backpointers) ends place (eqb-true place 0 it_is) are
-some_reached f by_surface backpointers place bound (suc i) ends bundles_are all it_is latest are =
-    let node = bundle_node f by_surface bundles_are backpointers all i latest.1.0 latest.1.1 in
+some_reached f by_surface backpointers place bound zero ends groups_are all it_is latest are = some_bos (nodes_of (node_words f by_surface) backpointers) ends place (eqb-true place 0 it_is) are
+some_reached f by_surface backpointers place bound (suc i) ends groups_are all it_is latest are =
+    let node = group_node f by_surface groups_are backpointers all i latest.1.0 latest.1.1 in
     some_end (nodes_of (node_words f by_surface) backpointers) place latest.1.0.from node.0 ends node.1 (node.2 ∙ latest.1.2) are

@@ -12,7 +12,7 @@ use Rattle.viterbi.specs.Search.Nodes.{AreSurfaceNodes, IsLatest, LinksAreLatest
 use Rattle.viterbi.specs.Search.Lattice.{IsBelow}
 use Rattle.viterbi.specs.Search.EndNodes.{AreEndNodes, IsEndNode, AreEndNodesOf, end_node}
 use Rattle.viterbi.proofs.Pushed.{get_push_old, get_push_new, get_push_cases}
-use Rattle.viterbi.proofs.SurfaceNodeLemmas.{next_bundle, node_bundle, nodes_length, start, starts_rise}
+use Rattle.viterbi.proofs.SurfaceNodeLemmas.{next_group, node_group, nodes_length, start, starts_rise}
 
 -- how many links lead from a group to the first one
 abbrev pub link_size : Option ℕ → ℕ
@@ -44,8 +44,8 @@ module _ (nodes : List Node) (place : ℕ) where
   })
 
   -- from a lower number on, if no node between ends at the position
-  stand_lower : (ends : List EndNode) (low from : ℕ) → low ≤ from → ((k : ℕ) (m : Node) → low ≤ k → k < from → slice_get nodes k ≡ Some m → m.word.end ≡ place → ⊥) → AreEndNodesOf nodes place from ends → AreEndNodesOf nodes place low ends
-  stand_lower ends low from le none h = record {
+  appear_lower : (ends : List EndNode) (low from : ℕ) → low ≤ from → ((k : ℕ) (m : Node) → low ≤ k → k < from → slice_get nodes k ≡ Some m → m.word.end ≡ place → ⊥) → AreEndNodesOf nodes place from ends → AreEndNodesOf nodes place low ends
+  appear_lower ends low from le none h = record {
     each = λ r e at. let o = h.each r e at in record { number = o.number; node = o.node; among = (let a = o.among in omega (arith, a, le)); here = o.here; ends = o.ends; is = o.is };
     all = λ k m above at there. elim (cases_lt k from) [ inl less ↦ absurd (none k m above less at there) | inr more ↦ h.all k m more at there ];
     falling = h.falling;
@@ -97,19 +97,19 @@ module _ (nodes : List Node) (place : ℕ) where
       ]
     ]
 
-    stand_more : AreEndNodesOf nodes place i (ends ++ end_node i n ∷ [])
-    stand_more = record { each = new_each; all = new_all; falling = new_falling }
+    appear_more : AreEndNodesOf nodes place i (ends ++ end_node i n ∷ [])
+    appear_more = record { each = new_each; all = new_all; falling = new_falling }
 
   -- one more node, the one just before
-  pub stand_next : (ends after : List EndNode) (i : ℕ) (n : Node) (e : EndNode) → slice_get nodes i ≡ Some n → n.word.end ≡ place → e ≡ end_node i n → after ≡ ends ++ e ∷ [] → AreEndNodesOf nodes place (i + 1) ends → AreEndNodesOf nodes place i after
-  stand_next ends after i n e at here is pushed h =
+  pub appear_next : (ends after : List EndNode) (i : ℕ) (n : Node) (e : EndNode) → slice_get nodes i ≡ Some n → n.word.end ≡ place → e ≡ end_node i n → after ≡ ends ++ e ∷ [] → AreEndNodesOf nodes place (i + 1) ends → AreEndNodesOf nodes place i after
+  appear_next ends after i n e at here is pushed h =
       subst (AreEndNodesOf nodes place i) (sym (pushed ∙ ap (λ (x : EndNode). ends ++ x ∷ []) is))
-      (stand_more ends (i + 1) i n (omega arith) at here (λ k m more less got there. omega (arith, more, less)) h)
+      (appear_more ends (i + 1) i n (omega arith) at here (λ k m more less got there. omega (arith, more, less)) h)
 
   -- ---- with one more node, which ends elsewhere
 
-  stand_past : (ends : List EndNode) (y : Node) → (y.word.end ≡ place → ⊥) → AreEndNodesOf nodes place 0 ends → AreEndNodesOf (nodes ++ y ∷ []) place 0 ends
-  stand_past ends y other h = record {
+  appear_past : (ends : List EndNode) (y : Node) → (y.word.end ≡ place → ⊥) → AreEndNodesOf nodes place 0 ends → AreEndNodesOf (nodes ++ y ∷ []) place 0 ends
+  appear_past ends y other h = record {
     each = λ r e at. let o = h.each r e at in record { number = o.number; node = o.node; among = o.among; here = get_push_old nodes y o.number o.node o.here; ends = o.ends; is = o.is };
     all = λ k m le at there. elim (get_push_cases nodes y k m at) [
       | inl old ↦ h.all k m le old there
@@ -120,7 +120,7 @@ module _ (nodes : List Node) (place : ℕ) where
 
   pub ends_past : (ends : List EndNode) (y : Node) → place < y.word.end → AreEndNodes nodes place ends → AreEndNodes (nodes ++ y ∷ []) place ends
   ends_past ends y next_ones (inl bos) = inl bos
-  ends_past ends y next_ones (inr (above, h)) = inr (above, stand_past ends y (λ e. omega (arith, e)) h)
+  ends_past ends y next_ones (inr (above, h)) = inr (above, appear_past ends y (λ e. omega (arith, e)) h)
 
 -- ---- the walk along groups of nodes
 
@@ -129,7 +129,7 @@ module _ (nodes : List Node) (place : ℕ) where
 pub record Gathered (f : Surface → List Word) (by_surface : List SurfaceNodes) (backpointers : List Backpointer) (place : ℕ) (ends : List EndNode) (link : Option ℕ) : Type 0 where
   pub from : ℕ
   pub latest : IsLatest by_surface place from link
-  pub stand : AreEndNodesOf (nodes_of (node_words f by_surface) backpointers) place (start f by_surface from) ends
+  pub appear : AreEndNodesOf (nodes_of (node_words f by_surface) backpointers) place (start f by_surface from) ends
 
 module _ (f : Surface → List Word) (by_surface : List SurfaceNodes) (are : AreSurfaceNodes f by_surface) (backpointers : List Backpointer) (all : length backpointers ≡ length (node_words f by_surface)) (place : ℕ) where
   abbrev nodes : List Node
@@ -143,16 +143,16 @@ module _ (f : Surface → List Word) (by_surface : List SurfaceNodes) (are : Are
       let long = nodes_length (node_words f by_surface) backpointers (omega (arith, all)) in
       let last = ap (λ (rs : List SurfaceNodes). length (node_words f rs)) (take_all (length by_surface) by_surface (omega arith)) in
       let same : length nodes ≡ start f by_surface (length by_surface) = omega (arith, long, last, all) in
-      record { from = length by_surface; latest = latest; stand = subst (λ (n : ℕ). AreEndNodesOf nodes place n ends) same (none_yet nodes place ends e) }
+      record { from = length by_surface; latest = latest; appear = subst (λ (n : ℕ). AreEndNodesOf nodes place n ends) same (none_yet nodes place ends e) }
 
   -- no node between belongs to a group that ends at the position
   none_between : (low from : ℕ) → ((q : ℕ) (surface_nodes : SurfaceNodes) → low ≤ q → q < from → slice_get by_surface q ≡ Some surface_nodes → surface_nodes.surface.end ≡ place → ⊥)
       → (k : ℕ) (m : Node) → start f by_surface low ≤ k → k < start f by_surface from → slice_get nodes k ≡ Some m → m.word.end ≡ place → ⊥
   none_between low from none k m above below at there =
-      let q = node_bundle f by_surface are backpointers all k m at in
+      let q = node_group f by_surface are backpointers all k m at in
       let h = q.1 in
       let first = are.from q.0 h.surface_nodes h.here in
-      let next = next_bundle f by_surface are q.0 h.surface_nodes h.here in
+      let next = next_group f by_surface are q.0 h.surface_nodes h.here in
       let lower = h.from in
       let upper = h.within in
       elim (cases_lt q.0 low) [
@@ -167,20 +167,20 @@ module _ (f : Surface → List Word) (by_surface : List SurfaceNodes) (are : Are
   pub before_turn : (ends : List EndNode) (i : ℕ) (surface_nodes : SurfaceNodes) → slice_get by_surface i ≡ Some surface_nodes → Walk ends (Some i) → AreEndNodesOf nodes place (surface_nodes.from + surface_nodes.surface.count) ends
   before_turn ends i surface_nodes at w =
       let l = w.latest in
-      let next = next_bundle f by_surface are i surface_nodes at in
+      let next = next_group f by_surface are i surface_nodes at in
       let rise = starts_rise f by_surface (i + 1) w.from (let less = l.0 in omega (arith, less)) in
       subst (λ (n : ℕ). AreEndNodesOf nodes place n ends) next
-      (stand_lower nodes place ends (start f by_surface (i + 1)) (start f by_surface w.from) rise (none_between (i + 1) w.from (λ q r more less. l.2 q r (omega (arith, more)) less)) w.stand)
+      (appear_lower nodes place ends (start f by_surface (i + 1)) (start f by_surface w.from) rise (none_between (i + 1) w.from (λ q r more less. l.2 q r (omega (arith, more)) less)) w.appear)
 
   -- and with its own it is passed
   pub after_turn : (ends after : List EndNode) (i : ℕ) (surface_nodes : SurfaceNodes) → LinksAreLatest by_surface → slice_get by_surface i ≡ Some surface_nodes → Walk ends (Some i) → AreEndNodesOf nodes place surface_nodes.from after → Walk after (link_of surface_nodes.next)
-  after_turn ends after i surface_nodes links at w stand =
+  after_turn ends after i surface_nodes links at w appear =
       let l = w.latest in
       let there : surface_nodes.surface.end ≡ place = ap (λ (r : SurfaceNodes). r.surface.end) (same_Some surface_nodes l.1.0 (sym at ∙ l.1.1)) ∙ l.1.2 in
       record {
         from = i;
         latest = subst (λ (p : ℕ). IsLatest by_surface p i (link_of surface_nodes.next)) there (links i surface_nodes at);
-        stand = subst (λ (n : ℕ). AreEndNodesOf nodes place n after) (are.from i surface_nodes at) stand;
+        appear = subst (λ (n : ℕ). AreEndNodesOf nodes place n after) (are.from i surface_nodes at) appear;
       }
 
   -- the next group ends at the position
@@ -190,8 +190,8 @@ module _ (f : Surface → List Word) (by_surface : List SurfaceNodes) (are : Are
   pub below_there : (ends : List EndNode) (link : Option ℕ) → Walk ends link → IsBelow link (length by_surface)
   below_there ends link w = latest_is_there by_surface place w.from link w.latest
 
-  pub bundle_there : (ends : List EndNode) (link : Option ℕ) (i : ℕ) → link ≡ Some i → Walk ends link → i < length by_surface
-  bundle_there ends link i is w = subst (λ (o : Option ℕ). IsBelow o (length by_surface)) is (below_there ends link w)
+  pub group_there : (ends : List EndNode) (link : Option ℕ) (i : ℕ) → link ≡ Some i → Walk ends link → i < length by_surface
+  group_there ends link i is w = subst (λ (o : Option ℕ). IsBelow o (length by_surface)) is (below_there ends link w)
 
   pub gathered_at : (ends : List EndNode) (link other : Option ℕ) → link ≡ other → Walk ends link → Walk ends other
   gathered_at ends link other is w = subst (λ (o : Option ℕ). Walk ends o) is w
@@ -199,4 +199,4 @@ module _ (f : Surface → List Word) (by_surface : List SurfaceNodes) (are : Are
   pub walk_ends : (ends : List EndNode) (link : Option ℕ) → link ≡ None → Walk ends link → AreEndNodesOf nodes place 0 ends
   walk_ends ends link is w =
       let none = subst (λ (o : Option ℕ). IsLatest by_surface place w.from o) is w.latest in
-      stand_lower nodes place ends 0 (start f by_surface w.from) (omega arith) (none_between 0 w.from (λ q r more less. none q r less)) w.stand
+      appear_lower nodes place ends 0 (start f by_surface w.from) (omega arith) (none_between 0 w.from (λ q r more less. none q r less)) w.appear

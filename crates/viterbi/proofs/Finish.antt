@@ -20,7 +20,7 @@ use Rattle.std.proofs.lemmas.List.{reverse-reverse}
 use Rattle.mj_model.proofs.ReversedChainLemmas.{best_path_from, cost_reversed}
 use Rattle.viterbi.proofs.Choice.{some_bos, some_end}
 use Rattle.viterbi.proofs.Links.{traced_same}
-use Rattle.viterbi.proofs.SurfaceNodeLemmas.{node_bundle, bundle_node}
+use Rattle.viterbi.proofs.SurfaceNodeLemmas.{node_group, group_node}
 
 module _ (words : ℕ → List Word) (conn : ℕ → ℕ → ℤ) (len : ℕ) (source : IsSource words conn len) where
   abbrev pub Lattice : List Node → ℕ → ℕ → Type 0
@@ -44,7 +44,7 @@ module _ (words : ℕ → List Word) (conn : ℕ → ℕ → ℤ) (len : ℕ) (s
           let within : m.word.end < length heads = omega (arith, low, long) in
           let here = slice_get-get_or heads m.word.end 0 within in
           let none = is.none_later m.word.end (get_or heads m.word.end 0) (omega arith) here in
-          let q = node_bundle f by_surface are backpointers all i m at in
+          let q = node_group f by_surface are backpointers all i m at in
           absurd (subst (λ (h : ℕ). IsLatest by_surface m.word.end (length by_surface) (link_of h)) none (linked.heads_latest m.word.end (get_or heads m.word.end 0) here) q.0 q.1.surface_nodes (slice_get_within by_surface q.0 q.1.surface_nodes q.1.here) q.1.here (sym q.2))
       | inr more ↦ more
     ];
@@ -52,7 +52,7 @@ module _ (words : ℕ → List Word) (conn : ℕ → ℕ → ℤ) (len : ℕ) (s
       | inl start ↦ inl start
       | inr at ↦
           let latest = linked.heads_latest last (suc at.0) at.1 in
-          let node = bundle_node f by_surface are backpointers all at.0 latest.1.0 latest.1.1 in
+          let node = group_node f by_surface are backpointers all at.0 latest.1.0 latest.1.1 in
           inr (latest.1.0.from, node.0, node.1, node.2 ∙ latest.1.2)
     ];
   }

@@ -23,17 +23,17 @@ use Rattle.viterbi.specs.Rivals.Successors.{IsFollower, IsSuccessorAt, KeepsBack
 use Rattle.viterbi.specs.Rivals.Neighbors.{AreAfter, IsAfter, IsAfterIfSome}
 use Rattle.viterbi.specs.Rivals.Places.{AreNodesOf, words_in}
 use Rattle.viterbi.specs.declared.rivals.neighbor.Neighbor.{Neighbor}
-use Rattle.viterbi.proofs.BestPathLemmas.{no_rest, rest_least}
+use Rattle.viterbi.proofs.BestPathLemmas.{no_backward, backward_least}
 use Rattle.viterbi.proofs.PlaceLemmas.{node_here, through_of, total_of, word_here}
 
 module _ (t : SearchedText) (source : CanBeSearched t) (nodes : List LatticeNode) (are : AreNodesOf t nodes) (i : ℕ) (n : LatticeNode) (here : slice_get nodes i ≡ Some n) where
   -- the backward cost of a node is the least that its successors allow
   left : (k : ℕ) (m : LatticeNode) (cost : ℤ) → slice_get nodes k ≡ Some m → m.through ≡ Some cost → IsLeastOf (CostsToEos t.words t.connection m.word) (Some (cost -ℤ m.total))
-  left k m cost at through = rest_least t.words t.connection t.text_length source.source.are m.word m.total (total_of t source nodes are k m at) cost (subst (IsLeastOf (CostsThrough t.words t.connection m.word)) through (through_of t source nodes are k m at))
+  left k m cost at through = backward_least t.words t.connection t.text_length source.source.are m.word m.total (total_of t source nodes are k m at) cost (subst (IsLeastOf (CostsThrough t.words t.connection m.word)) through (through_of t source nodes are k m at))
 
   -- a node after which a path goes on has some cost through it
   goes_through : (k : ℕ) (m : LatticeNode) (o : Option ℤ) (d : ℤ) → slice_get nodes k ≡ Some m → m.through ≡ o → CostsToEos t.words t.connection m.word d → (c : ℤ) × (o ≡ Some c)
-  goes_through k m None d at through on = absurd (no_rest t.words t.connection t.text_length source.source.are m.word m.total (total_of t source nodes are k m at) (subst (IsLeastOf (CostsThrough t.words t.connection m.word)) through (through_of t source nodes are k m at)) d on)
+  goes_through k m None d at through on = absurd (no_backward t.words t.connection t.text_length source.source.are m.word m.total (total_of t source nodes are k m at) (subst (IsLeastOf (CostsThrough t.words t.connection m.word)) through (through_of t source nodes are k m at)) d on)
   goes_through k m (Some c) d at through on = (c, refl)
 
   -- the node of a word that follows it

@@ -59,8 +59,8 @@ module _ (words : ℕ → List Word) (conn : ℕ → ℕ → ℤ) (len : ℕ) (s
       get_from_Contains ws v (r.all v (vs, (refl, h.1, h.2)) (omega (arith, go, end)))
 
   -- a word of an earlier position comes earlier
-  pub stands_earlier : (k i : ℕ) (v w : Word) → slice_get ws k ≡ Some v → slice_get ws i ≡ Some w → v.place < w.place → k < i
-  stands_earlier k i v w at_v at_w low = elim (cases_lt k i) [
+  pub appears_earlier : (k i : ℕ) (v w : Word) → slice_get ws k ≡ Some v → slice_get ws i ≡ Some w → v.place < w.place → k < i
+  appears_earlier k i v w at_v at_w low = elim (cases_lt k i) [
     | inl less ↦ less
     | inr more ↦ elim (cases_lt i k) [
       | inl after ↦ elim (r.in_order i k w v after at_w at_v) [
@@ -81,7 +81,7 @@ module _ (words : ℕ → List Word) (conn : ℕ → ℕ → ℤ) (len : ℕ) (s
   head_below i w (v ∷ vs) at h =
       let go = source.are.go_on v.place v h.1 in
       let f = last_there v vs w.place h in
-      (f.0, stands_earlier f.0 i v w f.1 at (omega (arith, go, h.0)), f.1)
+      (f.0, appears_earlier f.0 i v w f.1 at (omega (arith, go, h.0)), f.1)
 
   -- so the forward cost of a word is known once those of the words before it were propagated
   pub total_known : (i n : ℕ) (w : Word) (o : Option ℤ) → slice_get ws i ≡ Some w → i ≤ n → IsLeastOf (CostsUpToBelow words conn ws n w) o → IsLeastOf (CostsUpTo words conn w) o
@@ -105,16 +105,16 @@ module _ (words : ℕ → List Word) (conn : ℕ → ℕ → ℤ) (len : ℕ) (s
     e ∙ ap (λ (us : List Word). cost_to conn (w ∷ us)) none,
   )
 
-  pub begun_some : (i : ℕ) (w : Word) (x : ℤ) → slice_get ws i ≡ Some w → w.place ≡ 0 → x ≡ (pos 0 +ℤ conn 0 w.left) +ℤ w.cost → IsLeastOf (CostsUpToBelow words conn ws 0 w) (Some x)
-  begun_some i w x at first e = (
+  pub started_some : (i : ℕ) (w : Word) (x : ℤ) → slice_get ws i ≡ Some w → w.place ≡ 0 → x ≡ (pos 0 +ℤ conn 0 w.left) +ℤ w.cost → IsLeastOf (CostsUpToBelow words conn ws 0 w) (Some x)
+  started_some i w x at first e = (
     ([], (refl, word_there i w at, first), tt, e),
     λ c p.
         let b = (at_bos w c p.0 p.1 (none_below ws p.0 p.2) p.3).1 in
         omega (arith, ints, b, e),
   )
 
-  pub begun_none : (w : Word) → (w.place ≡ 0 → ⊥) → IsLeastOf (CostsUpToBelow words conn ws 0 w) None
-  begun_none w other = λ c p. other (at_bos w c p.0 p.1 (none_below ws p.0 p.2) p.3).0
+  pub started_none : (w : Word) → (w.place ≡ 0 → ⊥) → IsLeastOf (CostsUpToBelow words conn ws 0 w) None
+  started_none w other = λ c p. other (at_bos w c p.0 p.1 (none_below ws p.0 p.2) p.3).0
 
   -- ---- one forward cost is propagated
 

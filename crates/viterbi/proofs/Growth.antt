@@ -17,7 +17,7 @@ use Rattle.mj_model.specs.Searchable.{StaysOnPlaces}
 use Rattle.viterbi.proofs.Pushed.{get_push_old, get_push_new, get_push_cases, get_from_Contains, Contains_from_get}
 use Rattle.viterbi.proofs.Links.{traces_push, below_all}
 use Rattle.viterbi.proofs.Choice.{none_leads}
-use Rattle.viterbi.proofs.SurfaceNodeLemmas.{node_bundle, bundle_node}
+use Rattle.viterbi.proofs.SurfaceNodeLemmas.{node_group, group_node}
 
 module _ (words : ℕ → List Word) (conn : ℕ → ℕ → ℤ) (len : ℕ) (source : IsSource words conn len) where
   abbrev pub Lattice : List Node → ℕ → ℕ → Type 0
@@ -111,8 +111,8 @@ module _ (words : ℕ → List Word) (conn : ℕ → ℕ → ℤ) (len : ℕ) (s
     grows = record { best = all_best; done = all_done; order = all_order; complete = all_complete }
 
   -- after the first word of a position comes the next position
-  pub is_successor : (nodes : List Node) (p : ℕ) → Lattice nodes p 0 → Lattice nodes (p + 1) (length (words (p + 1)))
-  is_successor nodes p l = record {
+  pub at_next_position : (nodes : List Node) (p : ℕ) → Lattice nodes p 0 → Lattice nodes (p + 1) (length (words (p + 1)))
+  at_next_position nodes p l = record {
     best = l.best;
     done = λ i n h. elim (l.done i n h) [ inl less ↦ inl (omega arith) | inr at ↦ let e = at.0 in inl (omega (arith, e)) ];
     order = l.order;
@@ -144,7 +144,7 @@ module _ (words : ℕ → List Word) (conn : ℕ → ℕ → ℤ) (len : ℕ) (s
   reached_place is_place f by_surface backpointers heads p k place zero stays are all l linked at yes_it_is = subst is_place (sym (eqb-true place 0 yes_it_is)) stays.begins
   reached_place is_place f by_surface backpointers heads p k place (suc i) stays are all l linked at yes_it_is =
       let latest = linked.heads_latest place (suc i) at in
-      let node = bundle_node f by_surface are backpointers all i latest.1.0 latest.1.1 in
+      let node = group_node f by_surface are backpointers all i latest.1.0 latest.1.1 in
       let b = l.best latest.1.0.from node.0 node.1 in
       subst is_place (node.2 ∙ latest.1.2) (stays.word_ends_there node.0.word.place node.0.word b.is_word)
 
@@ -174,5 +174,5 @@ module _ (words : ℕ → List Word) (conn : ℕ → ℕ → ℤ) (len : ℕ) (s
       let above : 0 < p = let n = eqb-false p 0 it_is_not in omega (arith, n) in
       let latest = linked.heads_latest p 0 at in
       passes nodes p (none_leads words conn len source nodes p (length (words p)) p l (omega arith) above (λ k m here there.
-      let q = node_bundle f by_surface are backpointers all k m here in
+      let q = node_group f by_surface are backpointers all k m here in
       latest q.0 q.1.surface_nodes (slice_get_within by_surface q.0 q.1.surface_nodes q.1.here) q.1.here (sym q.2 ∙ there))) l

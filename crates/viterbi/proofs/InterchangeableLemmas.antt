@@ -16,7 +16,7 @@ use Rattle.viterbi.specs.Search.Lattice.{IsPredecessor, IsLattice, node_of}
 use Rattle.viterbi.specs.Search.Nodes.{Node, stored_node, link_of, node_words}
 use Rattle.viterbi.specs.Search.SearchedText.{AreSurfacesAt, SearchedText, words_before}
 use Rattle.viterbi.proofs.SurfaceNodeLemmas.{next_word}
-use Rattle.viterbi.proofs.Pushed.{Contains_from_get, get_front}
+use Rattle.viterbi.proofs.Pushed.{Contains_from_get, get_prefix}
 use Rattle.viterbi.proofs.WordNumbers.{no_surface, no_word, whole_at, word_at}
 
 module _ (words : ℕ → List Word) (conn : ℕ → ℕ → ℤ) where
@@ -26,8 +26,8 @@ module _ (words : ℕ → List Word) (conn : ℕ → ℕ → ℤ) where
     pub is : stored_node w b ≡ node_of w predecessor
     pub predecessors : IsPredecessor words conn nodes p w.left predecessor
 
-  pub joins_alike : (nodes : List Node) (p k i : ℕ) (v w : Word) (b : Backpointer) → IsLattice words conn nodes p k → slice_get nodes i ≡ Some (stored_node v b) → v.place ≡ p → IsInterchangeable v w → JoinsAlike nodes p w b
-  joins_alike nodes p k i v w b l at there alike =
+  pub predecessors_alike : (nodes : List Node) (p k i : ℕ) (v w : Word) (b : Backpointer) → IsLattice words conn nodes p k → slice_get nodes i ≡ Some (stored_node v b) → v.place ≡ p → IsInterchangeable v w → JoinsAlike nodes p w b
+  predecessors_alike nodes p k i v w b l at there alike =
       let best = l.best i (stored_node v b) at in
       let cost = cost_with_next conn best.chain w.left in
       let left = ap (cost_with_next conn best.chain) alike.left in
@@ -57,7 +57,7 @@ word_back ws before us fs n i v is at long =
     let whole = ap length is ∙ length-append (before ++ reverse us) (reverse fs) in
     let own = length-reverse fs in
     let front : n + i + 1 ≡ length (before ++ reverse us) = omega (arith, whole, own, long) in
-    ap (λ (xs : List Word). slice_get xs n) is ∙ get_front (before ++ reverse us) (reverse fs) n (omega (arith, front)) ∙ next_word (before ++ reverse us) before us n i v refl at front
+    ap (λ (xs : List Word). slice_get xs n) is ∙ get_prefix (before ++ reverse us) (reverse fs) n (omega (arith, front)) ∙ next_word (before ++ reverse us) before us n i v refl at front
 
 module _ (t : SearchedText) (place : ℕ) (ss : List Surface) (are : AreSurfacesAt t place ss) (number : ℕ) (within : number < length ss) (alike : MatchesNext t ss number) where
   abbrev its : Surface

@@ -43,10 +43,10 @@ module _ (conn : ℕ → ℕ → ℤ) where
       let more = cost_tail ws tail w.right ((total +ℤ conn right w.left) +ℤ w.cost) in
       omega (arith, ints, more)
 
-  pub cost_front : (vs ws : List Word) → path_cost conn (reverse vs ++ ws) ≡ cost_to conn vs +ℤ cost_after conn (last_right vs) ws
-  cost_front [] ws = omega (arith, ints)
-  cost_front (v ∷ vs) ws =
-      let more = cost_front vs (v ∷ ws) in
+  pub cost_prefix : (vs ws : List Word) → path_cost conn (reverse vs ++ ws) ≡ cost_to conn vs +ℤ cost_after conn (last_right vs) ws
+  cost_prefix [] ws = omega (arith, ints)
+  cost_prefix (v ∷ vs) ws =
+      let more = cost_prefix vs (v ∷ ws) in
       let turn = ap (path_cost conn) (turned v vs ws) in
       omega (arith, ints, more, turn)
 
@@ -94,8 +94,8 @@ pub record IsSplit (words : ℕ → List Word) (path : List Word) (w : Word) (to
   pub before : List Word
   pub after : List Word
   pub is : path ≡ reverse (w ∷ before) ++ after
-  pub is_predecessor : IsChainTo words (w ∷ before) w.end
-  pub is_successor : IsChain words w.end after to
+  pub prefix_chain : IsChainTo words (w ∷ before) w.end
+  pub suffix_chain : IsChain words w.end after to
 
 module _ (words : ℕ → List Word) (len : ℕ) (are : AreWords words len) where
   split_from : (ws vs : List Word) (at to i : ℕ) (w : Word) → IsChainTo words vs at → IsChain words at ws to → slice_get ws i ≡ Some w → IsSplit words (reverse vs ++ ws) w to
@@ -106,13 +106,13 @@ module _ (words : ℕ → List Word) (len : ℕ) (are : AreWords words len) wher
         before = vs;
         after = ws;
         is = turned u vs ws;
-        is_predecessor = (refl, subst (λ (q : ℕ). Contains (words q) u) (sym p) h.0, subst (IsChainTo words vs) (sym p) v);
-        is_successor = h.1;
+        prefix_chain = (refl, subst (λ (q : ℕ). Contains (words q) u) (sym p) h.0, subst (IsChainTo words vs) (sym p) v);
+        suffix_chain = h.1;
       })
   split_from (u ∷ ws) vs at to (suc i) w v h g =
       let p = are.places at u h.0 in
-      let is_predecessor : IsChainTo words (u ∷ vs) u.end = (refl, subst (λ (q : ℕ). Contains (words q) u) (sym p) h.0, subst (IsChainTo words vs) (sym p) v) in
-      subst (λ (us : List Word). IsSplit words us w to) (sym (turned u vs ws)) (split_from ws (u ∷ vs) u.end to i w is_predecessor h.1 g)
+      let prefix_chain : IsChainTo words (u ∷ vs) u.end = (refl, subst (λ (q : ℕ). Contains (words q) u) (sym p) h.0, subst (IsChainTo words vs) (sym p) v) in
+      subst (λ (us : List Word). IsSplit words us w to) (sym (turned u vs ws)) (split_from ws (u ∷ vs) u.end to i w prefix_chain h.1 g)
 
   pub split_at : (path : List Word) (to : ℕ) (w : Word) → IsChain words 0 path to → Contains path w → IsSplit words path w to
   split_at path to w h c =

@@ -14,8 +14,8 @@ use Rattle.viterbi.specs.Search.Lattice.{node_of}
 use Rattle.viterbi.specs.Search.Nodes.{stored_node}
 use Rattle.viterbi.specs.Search.StartPositions.{AreKeptFrom}
 use Rattle.viterbi.specs.Search.SearchedText.{IsLatticeTo, IsPrunedTo, SearchedText, nodes_in, with_words, word_count}
-use Rattle.viterbi.proofs.AddedWords.{all_copied, predecessors, many, next_surface_added, one_more, pairs, small, totals}
-use Rattle.viterbi.proofs.Growth.{is_successor}
+use Rattle.viterbi.proofs.AddedWords.{all_copied, predecessors, many, next_surface_added, one_more, pairs, small, small_end_costs}
+use Rattle.viterbi.proofs.Growth.{at_next_position}
 use Rattle.viterbi.proofs.WordNumbers.{no_surface}
 
 -- the last nodes are those of a surface, whatever words are kept
@@ -34,8 +34,8 @@ module _ (t : SearchedText) (p : StartPosition) (number : ℕ) (within : number 
   its = get_or p.surfaces.now number no_surface
 
   module _ (by_surface : List SurfaceNodes) (backpointers : List Backpointer) (i : ℕ) (w : Word) (at : slice_get (t.surface_words its) i ≡ Some w) (h : AreKeptFrom t p number (i + 1) by_surface backpointers) where
-    pub kept_totals : All HasSmallTotal p.ends.now
-    kept_totals = totals (with_words t h.kept) p h.place number within by_surface backpointers i w at h.added
+    pub kept_forward_costs : All HasSmallTotal p.ends.now
+    kept_forward_costs = small_end_costs (with_words t h.kept) p h.place number within by_surface backpointers i w at h.added
 
     pub kept_pairs : All (IsFollowedBy t.is_pair w.left) p.ends.now
     kept_pairs = pairs (with_words t h.kept) p h.place number within by_surface backpointers i w at h.added
@@ -80,5 +80,5 @@ pub lattice_goes_on : (t : SearchedText) (p : StartPosition) (by_surface : List 
 lattice_goes_on t p by_surface backpointers h = record {
   kept = h.kept;
   pruned = h.pruned;
-  lattice = is_successor h.kept t.connection t.text_length h.place.source.source (nodes_in t by_surface backpointers) p.start h.added.lattice;
+  lattice = at_next_position h.kept t.connection t.text_length h.place.source.source (nodes_in t by_surface backpointers) p.start h.added.lattice;
 }

@@ -18,7 +18,7 @@ use Rattle.viterbi.specs.Nodes.BackwardCosts.{AreBackwardCostsIn}
 use Rattle.viterbi.specs.Nodes.ForwardCosts.{AreForwardCostsIn}
 use Rattle.viterbi.proofs.LeastLemmas.{plus}
 use Rattle.viterbi.proofs.PathParts.{least_through}
-use Rattle.viterbi.proofs.SourceLemmas.{rest_small, total_small}
+use Rattle.viterbi.proofs.SourceLemmas.{backward_small, total_small}
 
 -- ---- one node after another
 
@@ -36,11 +36,11 @@ node_pushed ws forward_costs backward_costs count nodes after n pushed is a = su
 })
 
 -- equal lists make equal nodes
-pub nodes_along : (ws ws_too : List Word) (forward_costs totals_too backward_costs rests_too : List (Option ChainCost)) (nodes : List LatticeNode) → ws ≡ ws_too → forward_costs ≡ totals_too → backward_costs ≡ rests_too → AreNodes ws forward_costs backward_costs (length ws) nodes
-    → AreNodes ws_too totals_too rests_too (length ws_too) nodes
-nodes_along ws ws_too forward_costs totals_too backward_costs rests_too nodes a b c are =
-    subst (λ (us : List Word). AreNodes us totals_too rests_too (length us) nodes) a
-    (subst (λ (os : List (Option ChainCost)). AreNodes ws os rests_too (length ws) nodes) b
+pub nodes_along : (ws ws_too : List Word) (forward_costs forward_costs_too backward_costs backward_costs_too : List (Option ChainCost)) (nodes : List LatticeNode) → ws ≡ ws_too → forward_costs ≡ forward_costs_too → backward_costs ≡ backward_costs_too → AreNodes ws forward_costs backward_costs (length ws) nodes
+    → AreNodes ws_too forward_costs_too backward_costs_too (length ws_too) nodes
+nodes_along ws ws_too forward_costs forward_costs_too backward_costs backward_costs_too nodes a b c are =
+    subst (λ (us : List Word). AreNodes us forward_costs_too backward_costs_too (length us) nodes) a
+    (subst (λ (os : List (Option ChainCost)). AreNodes ws os backward_costs_too (length ws) nodes) b
     (subst (λ (os : List (Option ChainCost)). AreNodes ws forward_costs os (length ws) nodes) c are))
 
 -- a small forward cost is one
@@ -66,28 +66,28 @@ sum_is x None = refl
 sum_is x (Some y) = refl
 
 module _ (t : SearchedText) (r : ReachableWords) (source : CanBeSearched t) (reached : AreReachedIn t r) where
-  module _ (forward_costs backward_costs : List (Option ChainCost)) (totals_are : AreForwardCostsIn t r forward_costs) (rests_are : AreBackwardCostsIn t r backward_costs) where
+  module _ (forward_costs backward_costs : List (Option ChainCost)) (forward_costs_are : AreForwardCostsIn t r forward_costs) (backward_costs_are : AreBackwardCostsIn t r backward_costs) where
     total_at : (i : ℕ) (o : Option ChainCost) → slice_get forward_costs i ≡ Some o → IsSmallTotal o
     total_at i o at =
-        let long = totals_are.long in
+        let long = forward_costs_are.long in
         let low = slice_get_within forward_costs i o at in
         let here = slice_get-get_or r.words.items i no_word (omega (arith, low, long)) in
         let w = get_or r.words.items i no_word in
-        total_small t r source reached i w o here (totals_are.each i w o here at)
+        total_small t r source reached i w o here (forward_costs_are.each i w o here at)
 
     backward_cost_at : (i : ℕ) (o : Option ChainCost) → slice_get backward_costs i ≡ Some o → IsSmallIfSome o
     backward_cost_at i o at =
-        let long = rests_are.long in
+        let long = backward_costs_are.long in
         let low = slice_get_within backward_costs i o at in
         let here = slice_get-get_or r.words.items i no_word (omega (arith, low, long)) in
         let w = get_or r.words.items i no_word in
-        rest_small t r source reached i w o here (rests_are.known i w o (omega arith) here at)
+        backward_small t r source reached i w o here (backward_costs_are.known i w o (omega arith) here at)
 
-    pub totals_small : All IsSmallTotal forward_costs
-    totals_small i d within = total_at i (get_or forward_costs i d) (slice_get-get_or forward_costs i d within)
+    pub forward_costs_small : All IsSmallTotal forward_costs
+    forward_costs_small i d within = total_at i (get_or forward_costs i d) (slice_get-get_or forward_costs i d within)
 
-    pub rests_small : All IsSmallIfSome backward_costs
-    rests_small i d within = backward_cost_at i (get_or backward_costs i d) (slice_get-get_or backward_costs i d within)
+    pub backward_costs_small : All IsSmallIfSome backward_costs
+    backward_costs_small i d within = backward_cost_at i (get_or backward_costs i d) (slice_get-get_or backward_costs i d within)
 
     -- ---- what the nodes are
 
@@ -98,18 +98,18 @@ module _ (t : SearchedText) (r : ReachableWords) (source : CanBeSearched t) (rea
       has_total : (i : ℕ) (n : LatticeNode) → slice_get nodes i ≡ Some n → HasLeastForwardCost t n
       has_total i n at =
           let x = are.each i n at in
-          subst (λ (z : ℤ). IsLeastOf (CostsUpTo t.words t.connection n.word) (Some z)) (sym x.total_is) (totals_are.each i n.word (Some x.total) x.word_here x.total_here)
+          subst (λ (z : ℤ). IsLeastOf (CostsUpTo t.words t.connection n.word) (Some z)) (sym x.total_is) (forward_costs_are.each i n.word (Some x.total) x.word_here x.total_here)
 
       has_through : (i : ℕ) (n : LatticeNode) → slice_get nodes i ≡ Some n → HasLeastThrough t n
       has_through i n at =
           let x = are.each i n at in
-          subst (IsLeastOf (CostsThrough t.words t.connection n.word)) (sum_is x.total x.rest ∙ sym x.through_is)
-          (least_through t.words t.connection t.text_length source.source.are n.word x.total.cost (number_of x.rest)
-          (totals_are.each i n.word (Some x.total) x.word_here x.total_here)
-          (rests_are.known i n.word x.rest (omega arith) x.word_here x.rest_here))
+          subst (IsLeastOf (CostsThrough t.words t.connection n.word)) (sum_is x.total x.backward ∙ sym x.through_is)
+          (least_through t.words t.connection t.text_length source.source.are n.word x.total.cost (number_of x.backward)
+          (forward_costs_are.each i n.word (Some x.total) x.word_here x.total_here)
+          (backward_costs_are.known i n.word x.backward (omega arith) x.word_here x.backward_here))
 
-      pub have_totals : All (HasLeastForwardCost t) nodes
-      have_totals i d within = has_total i (get_or nodes i d) (slice_get-get_or nodes i d within)
+      pub have_forward_costs : All (HasLeastForwardCost t) nodes
+      have_forward_costs i d within = has_total i (get_or nodes i d) (slice_get-get_or nodes i d within)
 
       pub have_through : All (HasLeastThrough t) nodes
       have_through i d within = has_through i (get_or nodes i d) (slice_get-get_or nodes i d within)

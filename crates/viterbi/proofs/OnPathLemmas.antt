@@ -58,8 +58,8 @@ module _ (nodes : List LatticeNode) (path : List Word) where
     pub within : next ≤ length path
     pub next_ones : (k i : ℕ) (w : Word) (n : LatticeNode) → k < next → count ≤ i → slice_get path k ≡ Some w → slice_get nodes i ≡ Some n → w.place < n.word.place
 
-  pub told_none : AreToldTo 0 0 []
-  told_none = record {
+  pub reported_none : AreToldTo 0 0 []
+  reported_none = record {
     long = refl;
     each = λ i n b at_n at_b. absurd (cc);
     within = omega arith;
@@ -94,8 +94,8 @@ module _ (nodes : List LatticeNode) (path : List Word) where
           | inr (inr more) ↦ absurd (after_it g.0 more g.1)
         ]
 
-    pub told_more : AreToldTo (count + 1) found after
-    told_more = record {
+    pub reported_more : AreToldTo (count + 1) found after
+    reported_more = record {
       long = let e = reported.long in ap length pushed ∙ (let more = length_push on answer in omega (arith, more, e));
       each = λ i m b at_m at_b. elim (get_push_cases on answer i b (ap (λ (xs : List Bool). slice_get xs i) (sym pushed) ∙ at_b)) [
         | inl old ↦ reported.each i m b at_m old
@@ -113,8 +113,8 @@ module _ (nodes : List LatticeNode) (path : List Word) where
     }
 
   -- all nodes
-  pub told_all : (next : ℕ) (on : List Bool) → AreToldTo (length nodes) next on → AreOnPath nodes path on
-  told_all next on reported = record { long = reported.long; each = reported.each }
+  pub reported_all : (next : ℕ) (on : List Bool) → AreToldTo (length nodes) next on → AreOnPath nodes path on
+  reported_all next on reported = record { long = reported.long; each = reported.each }
 
 -- ---- the nodes of a lattice and the words of a path are in order
 

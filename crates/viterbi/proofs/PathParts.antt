@@ -38,8 +38,8 @@ module _ (words : ℕ → List Word) (conn : ℕ → ℕ → ℤ) (len : ℕ) (a
   record PartsAt (w : Word) (to : ℕ) (cost : ℤ) : Type 0 where
     before : List Word
     after : List Word
-    is_predecessor : IsChainTo words (w ∷ before) w.end
-    is_successor : IsChain words w.end after to
+    prefix_chain : IsChainTo words (w ∷ before) w.end
+    suffix_chain : IsChain words w.end after to
     cost_is : cost ≡ cost_to conn (w ∷ before) +ℤ cost_after conn w.right after
 
   parts_from : (ws vs : List Word) (at to i : ℕ) (w : Word) → IsChainTo words vs at → IsChain words at ws to → slice_get ws i ≡ Some w → PartsAt w to (cost_to conn vs +ℤ cost_after conn (last_right vs) ws)
@@ -49,19 +49,19 @@ module _ (words : ℕ → List Word) (conn : ℕ → ℕ → ℤ) (len : ℕ) (a
       subst (λ (x : Word). PartsAt x to (cost_to conn vs +ℤ cost_after conn (last_right vs) (u ∷ ws))) (same_Some u w g) (record {
         before = vs;
         after = ws;
-        is_predecessor = (refl, subst (λ (q : ℕ). Contains (words q) u) (sym p) h.0, subst (IsChainTo words vs) (sym p) v);
-        is_successor = h.1;
+        prefix_chain = (refl, subst (λ (q : ℕ). Contains (words q) u) (sym p) h.0, subst (IsChainTo words vs) (sym p) v);
+        suffix_chain = h.1;
         cost_is = omega (arith, ints);
       })
   parts_from (u ∷ ws) vs at to (suc i) w v h g =
       let p = are.places at u h.0 in
-      let is_predecessor : IsChainTo words (u ∷ vs) u.end = (refl, subst (λ (q : ℕ). Contains (words q) u) (sym p) h.0, subst (IsChainTo words vs) (sym p) v) in
-      let r = parts_from ws (u ∷ vs) u.end to i w is_predecessor h.1 g in
+      let prefix_chain : IsChainTo words (u ∷ vs) u.end = (refl, subst (λ (q : ℕ). Contains (words q) u) (sym p) h.0, subst (IsChainTo words vs) (sym p) v) in
+      let r = parts_from ws (u ∷ vs) u.end to i w prefix_chain h.1 g in
       record {
         before = r.before;
         after = r.after;
-        is_predecessor = r.is_predecessor;
-        is_successor = r.is_successor;
+        prefix_chain = r.prefix_chain;
+        suffix_chain = r.suffix_chain;
         cost_is = let e = r.cost_is in omega (arith, ints, e);
       }
 
@@ -72,8 +72,8 @@ module _ (words : ℕ → List Word) (conn : ℕ → ℕ → ℤ) (len : ℕ) (a
       record {
         before = r.before;
         after = r.after;
-        is_predecessor = r.is_predecessor;
-        is_successor = r.is_successor;
+        prefix_chain = r.prefix_chain;
+        suffix_chain = r.suffix_chain;
         cost_is = let e = r.cost_is in omega (arith, ints, e);
       }
 
@@ -89,7 +89,7 @@ module _ (words : ℕ → List Word) (conn : ℕ → ℕ → ℤ) (len : ℕ) (a
   pub parts_through : (w : Word) (c : ℤ) → CostsThrough words conn w c → (a : ℤ) × (b : ℤ) × CostsUpTo words conn w a × CostsToEos words conn w b × (c ≡ a +ℤ b)
   parts_through w c r =
       let s = parts_of r.0 r.1 w r.2.chain r.3 in
-      (cost_to conn (w ∷ s.before), cost_after conn w.right s.after, (s.before, s.is_predecessor, refl), (s.after, r.1, s.is_successor, r.2.longest, refl), r.4 ∙ s.cost_is)
+      (cost_to conn (w ∷ s.before), cost_after conn w.right s.after, (s.before, s.prefix_chain, refl), (s.after, r.1, s.suffix_chain, r.2.longest, refl), r.4 ∙ s.cost_is)
 
   -- the least cost up to and with a word and the least of what follows it add up to the least of
   -- the paths that have it

@@ -31,8 +31,8 @@ module _ (found : List CachedPredecessor) (slots : List ℕ) (have : HaveSlots f
       differs (ap (λ (y : CachedPredecessor). y.left) (sym equal) ∙ is)
 
   -- the slot leads to the only predecessor cached for the left id
-  pub answered : (left slot : ℕ) (kept : CachedPredecessor) → slice_get slots left ≡ Some slot → slice_get found slot ≡ Some kept → kept.left ≡ left → IsCacheResult found left (Some kept.predecessor)
-  answered left slot kept at_slot at_kept is predecessor = (
+  pub returned : (left slot : ℕ) (kept : CachedPredecessor) → slice_get slots left ≡ Some slot → slice_get found slot ≡ Some kept → kept.left ≡ left → IsCacheResult found left (Some kept.predecessor)
+  returned left slot kept at_slot at_kept is predecessor = (
     λ e.
         let same : kept.predecessor ≡ predecessor = same_Some kept.predecessor predecessor e in
         subst (λ (y : CachedPredecessor). Contains found y) (ap (λ (l : ℕ). record { left = l; predecessor = kept.predecessor }) is ∙ ap (λ (j : Predecessor). record { left = left; predecessor = j }) same) (Contains_from_get found slot kept at_kept),
@@ -58,8 +58,8 @@ module _ (found : List CachedPredecessor) (slots : List ℕ) (have : HaveSlots f
   ]
 
 -- if the left id is not cached, nothing is returned
-pub no_answer : (found : List CachedPredecessor) (left : ℕ) → IsUncached found left → IsCacheResult found left None
-no_answer found left new predecessor = (λ e. absurd (cc), λ c. let y : CachedPredecessor = record { left = left; predecessor = predecessor } in let g = get_from_Contains found y c in absurd (new g.0 y g.1 refl))
+pub no_result : (found : List CachedPredecessor) (left : ℕ) → IsUncached found left → IsCacheResult found left None
+no_result found left new predecessor = (λ e. absurd (cc), λ c. let y : CachedPredecessor = record { left = left; predecessor = predecessor } in let g = get_from_Contains found y c in absurd (new g.0 y g.1 refl))
 
 -- and if nothing is returned, it is not cached
 pub new_where_none : (found : List CachedPredecessor) (left : ℕ) (answer : Option Predecessor) → IsCacheResult found left answer → answer ≡ None → IsUncached found left

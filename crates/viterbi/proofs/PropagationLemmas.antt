@@ -153,18 +153,18 @@ module _ (t : SearchedText) (source : CanBeSearched t) (nodes : List LatticeNode
   module _ (k : ℕ) (n : LatticeNode) (at : slice_get nodes k ≡ Some n) (link : Neighbor) (at_link : slice_get links k ≡ Some link) where
     -- the chain of least cost is the word alone, if no node leads to it
     single_word_surface : link.node ≡ None → (before : List Word) → IsChainTo t.words (n.word ∷ before) n.word.end → n.total ≡ cost_to t.connection (n.word ∷ before) → before ≡ []
-    single_word_surface none [] is_predecessor sum = refl
-    single_word_surface none (v ∷ vs) is_predecessor sum =
-        let there = last_there t.words t.connection t.text_length source.source (words_in nodes) are.words v vs n.word.place is_predecessor.2 in
+    single_word_surface none [] prefix_chain sum = refl
+    single_word_surface none (v ∷ vs) prefix_chain sum =
+        let there = last_there t.words t.connection t.text_length source.source (words_in nodes) are.words v vs n.word.place prefix_chain.2 in
         let m = node_here nodes there.0 v there.1 in
-        let to_v : IsChainTo t.words (v ∷ vs) v.end = (refl, is_predecessor.2.1, is_predecessor.2.2) in
+        let to_v : IsChainTo t.words (v ∷ vs) v.end = (refl, prefix_chain.2.1, prefix_chain.2.2) in
         let to_m = subst (λ (x : Word). IsChainTo t.words (x ∷ vs) x.end) (sym m.2) to_v in
         let cost = ap (λ (x : Word). cost_to t.connection (x ∷ vs)) m.2 in
         let low = (total_of t source nodes are there.0 m.0 m.1).1 (cost_to t.connection (m.0.word ∷ vs)) (vs, to_m, refl) in
         let up = (total_of t source nodes are there.0 m.0 m.1).0 in
-        let meets : m.0.word.end ≡ n.word.place = ap (λ (x : Word). x.end) m.2 ∙ is_predecessor.2.0 in
+        let meets : m.0.word.end ≡ n.word.place = ap (λ (x : Word). x.end) m.2 ∙ prefix_chain.2.0 in
         let right = ap (λ (x : Word). t.connection x.right n.word.left) m.2 in
-        let also = (total_of t source nodes are k n at).1 (cost_to t.connection (n.word ∷ (m.0.word ∷ up.0))) (m.0.word ∷ up.0, (refl, is_predecessor.1, (meets, up.1.1, up.1.2)), refl) in
+        let also = (total_of t source nodes are k n at).1 (cost_to t.connection (n.word ∷ (m.0.word ∷ up.0))) (m.0.word ∷ up.0, (refl, prefix_chain.1, (meets, up.1.1, up.1.2)), refl) in
         let same = up.2 in
         absurd (h.none there.0 k m.0 n link (inl (slice_get_within nodes there.0 m.0 m.1)) m.1 at at_link none meets (omega (arith, ints, low, also, sum, cost, right, same)))
 

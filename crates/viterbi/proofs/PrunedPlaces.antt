@@ -23,7 +23,7 @@ use Rattle.viterbi.specs.Search.StartPositions.{AreKeptFrom}
 use Rattle.viterbi.specs.Search.Pruning.{ArePrunedSurfaces, ArePrunedWords, CanBePrunedAll, HasForwardCost, IsReplaced}
 use Rattle.viterbi.specs.Search.SearchedText.{AreAllStored, AreRightsStored, AreSurfacesAt, CanBeSearched, IsLatticeTo, IsPrunedTo, SearchedText, nodes_in, with_words}
 use Rattle.viterbi.specs.Search.PrunedEndNodes.{AreBestEndNodes}
-use Rattle.viterbi.proofs.Choice.{all_followed, least_joins, small_totals}
+use Rattle.viterbi.proofs.Choice.{all_followed, least_is_predecessor, small_forward_costs}
 use Rattle.viterbi.proofs.PruningLemmas.{holds_left, least_left}
 use Rattle.viterbi.proofs.WordNumbers.{all_words}
 
@@ -92,8 +92,8 @@ module _ (t : SearchedText) (can : CanBeSearched t) (p : ℕ) (within : p < t.te
     whole = are.whole;
     words = record {
       some = some;
-      totals = holds_left best.all ends best.left HasSmallTotal
-          (small_totals kept conn t.text_length l.pruned.searched.source nodes p (length (kept p)) p best.all can.short l.lattice best.are);
+      forward_costs = holds_left best.all ends best.left HasSmallTotal
+          (small_forward_costs kept conn t.text_length l.pruned.searched.source nodes p (length (kept p)) p best.all can.short l.lattice best.are);
       connections = can.source.connections;
       pairs = λ w h.
           let here : Contains (t.words p) w = subst (λ (ws : List Word). Contains ws w) are.joined h in
@@ -104,15 +104,15 @@ module _ (t : SearchedText) (can : CanBeSearched t) (p : ℕ) (within : p < t.te
   }
 
   -- a word's forward cost is that of the best chain to it
-  cost_joins : (w : Word) (cost : ℤ) (h : HasForwardCost conn ends w cost) → IsPredecessor kept conn nodes p w.left h.predecessor
-  cost_joins w cost h =
-      least_joins kept conn t.text_length l.pruned.searched.source nodes p (length (kept p)) p w.left best.all h.predecessor l.lattice (omega arith) best.are
+  cost_has_predecessor : (w : Word) (cost : ℤ) (h : HasForwardCost conn ends w cost) → IsPredecessor kept conn nodes p w.left h.predecessor
+  cost_has_predecessor w cost h =
+      least_is_predecessor kept conn t.text_length l.pruned.searched.source nodes p (length (kept p)) p w.left best.all h.predecessor l.lattice (omega arith) best.are
       (least_left best.all ends best.left conn w.left h.predecessor h.best_predecessor)
 
   -- a word after the best chain to it is no worse than after another chain
-  own_best : (w : Word) (cost : ℤ) (h : HasForwardCost conn ends w cost) (vs : List Word) → IsChainTo kept vs p → IsNoWorseThan t.words cost (w ∷ (cost_joins w cost h).chain) (cost_to conn (w ∷ vs)) (w ∷ vs)
+  own_best : (w : Word) (cost : ℤ) (h : HasForwardCost conn ends w cost) (vs : List Word) → IsChainTo kept vs p → IsNoWorseThan t.words cost (w ∷ (cost_has_predecessor w cost h).chain) (cost_to conn (w ∷ vs)) (w ∷ vs)
   own_best w cost h vs chain =
-      let j = cost_joins w cost h in
+      let j = cost_has_predecessor w cost h in
       let is = j.cost_is in
       let total = h.total_is in
       elim (no_worse_widens t.words kept conn t.text_length can.source.are l.pruned.pruned (cost_with_next conn j.chain w.left) (cost_with_next conn vs w.left) j.chain vs (j.best.best vs chain)) [
@@ -125,7 +125,7 @@ module _ (t : SearchedText) (can : CanBeSearched t) (p : ℕ) (within : p < t.te
       → (u : Word) × (us : List Word) × Contains some u × IsChainTo kept us p × (u.end ≡ v.end) × (u.right ≡ v.right) × IsNoWorseThan t.words (cost_to conn (u ∷ us)) (u ∷ us) (cost_to conn (v ∷ vs)) (v ∷ vs)
   replaced some v vs at r part chain =
       let u = r.word in
-      let ju = cost_joins u r.cost r.has_cost in
+      let ju = cost_has_predecessor u r.cost r.has_cost in
       let us = ju.chain in
       let u_at : u.place ≡ p = can.source.are.places p u (part.among u r.there) in
       let ju_is = ju.cost_is in

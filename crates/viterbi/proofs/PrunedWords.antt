@@ -21,7 +21,7 @@ use Rattle.viterbi.specs.Search.EndNodes.{HasSmallTotal, IsLeast}
 use Rattle.viterbi.specs.Search.Pruning.{AreAlone, AreBounded, AreForwardCosts, ArePrunedOf, ArePrunedSurfaces, ArePrunedWords, CanBePruned, CanBePrunedAll, HasForwardCost, HaveNumbersBelow, HaveRightIdsOnce, IsReplaced}
 use Rattle.viterbi.specs.Search.SearchedText.{SearchedText}
 use Rattle.viterbi.specs.Search.PrunedEndNodes.{ArePrunedFrom, ArePruned, HaveDistinctRightIds}
-use Rattle.viterbi.proofs.Appended.{contains_either, contains_left, contains_right, map_at, map_cases, part_of_both, stands_left, stands_right}
+use Rattle.viterbi.proofs.Appended.{contains_either, contains_left, contains_right, map_at, map_cases, part_of_both, appears_left, appears_right}
 use Rattle.viterbi.proofs.Pushed.{Contains_from_get, get_from_Contains, get_push_cases}
 use Rattle.viterbi.proofs.PruningLemmas.{no_end}
 use Rattle.viterbi.proofs.WordNumbers.{holds_in, no_word}
@@ -40,7 +40,7 @@ replaced_left conn ends qs ss bs rs w r = record {
   own = r.own;
   has_cost = r.has_cost;
   has_own = r.has_own;
-  no_more = elim r.no_more [ inl less ↦ inl less | inr same ↦ inr (same.0, stands_left qs bs r.word w same.1) ];
+  no_more = elim r.no_more [ inl less ↦ inl less | inr same ↦ inr (same.0, appears_left qs bs r.word w same.1) ];
 }
 
 replaced_right : (conn : ℕ → ℕ → ℤ) (ends : List EndNode) (qs ss bs rs : List Word) (w : Word) → IsReplaced conn ends bs rs w → IsReplaced conn ends (qs ++ bs) (ss ++ rs) w
@@ -53,7 +53,7 @@ replaced_right conn ends qs ss bs rs w r = record {
   own = r.own;
   has_cost = r.has_cost;
   has_own = r.has_own;
-  no_more = elim r.no_more [ inl less ↦ inl less | inr same ↦ inr (same.0, stands_right qs bs r.word w same.1) ];
+  no_more = elim r.no_more [ inl less ↦ inl less | inr same ↦ inr (same.0, appears_right qs bs r.word w same.1) ];
 }
 
 -- words that are kept of one list and of another are kept of both
@@ -73,11 +73,11 @@ kept_of_both conn ends qs ss bs rs p q = record {
 }
 
 -- the cost of a chain to a predecessor is small
-pub join_is_small : (conn : ℕ → ℕ → ℤ) (ends : List EndNode) (left : ℕ) (j : Predecessor) → All HasSmallTotal ends → ((right next : ℕ) → IsWithin (2 ^ 15) (conn right next)) → IsLeast conn ends left j → IsWithin (2 ^ 41) j.cost
-join_is_small conn ends left j totals connections best_predecessor =
+pub predecessor_is_small : (conn : ℕ → ℕ → ℤ) (ends : List EndNode) (left : ℕ) (j : Predecessor) → All HasSmallTotal ends → ((right next : ℕ) → IsWithin (2 ^ 15) (conn right next)) → IsLeast conn ends left j → IsWithin (2 ^ 41) j.cost
+predecessor_is_small conn ends left j forward_costs connections best_predecessor =
     let end = best_predecessor.end in
     let low = slice_get_within ends best_predecessor.rank end best_predecessor.here in
-    let total = subst HasSmallTotal (get_or_from_slice_get ends best_predecessor.rank end end best_predecessor.here) (totals best_predecessor.rank end low) in
+    let total = subst HasSmallTotal (get_or_from_slice_get ends best_predecessor.rank end end best_predecessor.here) (forward_costs best_predecessor.rank end low) in
     let c = connections end.right left in
     let is = best_predecessor.cost_is in
     (omega (arith, ints, total.0, c.0, is), omega (arith, ints, total.1, c.1, is))
@@ -182,7 +182,7 @@ pub one_end : (f : Surface → List Word) (s : Surface) → IsWhole f s → (v w
 one_end f s whole v w h k =
     let g = get_from_Contains (f s) v h in
     let i = get_from_Contains (f s) w k in
-    (holds_in (HasSameSpan s) (f s) g.0 v whole.stand g.1).end ∙ sym (holds_in (HasSameSpan s) (f s) i.0 w whole.stand i.1).end
+    (holds_in (HasSameSpan s) (f s) g.0 v whole.same_spans g.1).end ∙ sym (holds_in (HasSameSpan s) (f s) i.0 w whole.same_spans i.1).end
 
 -- ---- surfaces of one word each
 
@@ -327,7 +327,7 @@ whole_surface P (x ∷ ss) (suc number) s all at = whole_surface P ss number s a
 pub one_can_be_pruned : (t : SearchedText) (ends : List EndNode) (ss : List Surface) (number : ℕ) (s : Surface) → CanBePrunedAll t ends ss → slice_get ss number ≡ Some s → CanBePruned t ends (t.surface_words s)
 one_can_be_pruned t ends ss number s can at = record {
   some = can.words.some;
-  totals = can.words.totals;
+  forward_costs = can.words.forward_costs;
   connections = can.words.connections;
   pairs = λ w h. can.words.pairs w (word_of_surfaces t.surface_words ss number s w at h);
 }

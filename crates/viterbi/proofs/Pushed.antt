@@ -12,10 +12,10 @@ get_push_new [] y = refl
 get_push_new (z ∷ xs) y = get_push_new xs y
 
 -- elements that follow change none
-pub get_front : {X : Type 0} (xs ys : List X) (i : ℕ) → i < length xs → slice_get (xs ++ ys) i ≡ slice_get xs i
-get_front [] ys i less = absurd (omega (arith, less))
-get_front (x ∷ xs) ys zero less = refl
-get_front (x ∷ xs) ys (suc i) less = get_front xs ys i (omega (arith, less))
+pub get_prefix : {X : Type 0} (xs ys : List X) (i : ℕ) → i < length xs → slice_get (xs ++ ys) i ≡ slice_get xs i
+get_prefix [] ys i less = absurd (omega (arith, less))
+get_prefix (x ∷ xs) ys zero less = refl
+get_prefix (x ∷ xs) ys (suc i) less = get_prefix xs ys i (omega (arith, less))
 
 -- an element is one from before, or the new one
 pub get_push_cases : {X : Type 0} (xs : List X) (y : X) (i : ℕ) (x : X) → slice_get (xs ++ y ∷ []) i ≡ Some x → (slice_get xs i ≡ Some x) ⊎ ((i ≡ length xs) × (y ≡ x))

@@ -55,11 +55,11 @@ mark_stays marks end place within at = elim (cases_eq place end) [
   | inr other ↦ set_elsewhere marks end place true true other at
 ]
 
-module _ (ws vs : List Word) (marks : List Bool) (end : ℕ) (m : AreMarked ws marks) (within : end < length marks) (stand : (j : ℕ) (w : Word) → slice_get vs j ≡ Some w → w.end ≡ end) (some : 0 < length vs) where
+module _ (ws vs : List Word) (marks : List Bool) (end : ℕ) (m : AreMarked ws marks) (within : end < length marks) (appear : (j : ℕ) (w : Word) → slice_get vs j ≡ Some w → w.end ≡ end) (some : 0 < length vs) where
   ends_marked : (i : ℕ) (w : Word) → slice_get (ws ++ vs) i ≡ Some w → slice_get (set marks end true) w.end ≡ Some true
   ends_marked i w at = elim (get_joined ws vs i w at) [
     | inl old ↦ mark_stays marks end w.end within (m.ends i w old)
-    | inr new ↦ subst (λ (q : ℕ). slice_get (set marks end true) q ≡ Some true) (sym (stand new.0 w new.2)) (set_here marks end true within)
+    | inr new ↦ subst (λ (q : ℕ). slice_get (set marks end true) q ≡ Some true) (sym (appear new.0 w new.2)) (set_here marks end true within)
   ]
 
   marked_ends : (place : ℕ) → slice_get (set marks end true) place ≡ Some true → (place ≡ 0) ⊎ ((i : ℕ) × (w : Word) × (slice_get (ws ++ vs) i ≡ Some w) × (w.end ≡ place))
@@ -67,7 +67,7 @@ module _ (ws vs : List Word) (marks : List Bool) (end : ℕ) (m : AreMarked ws m
     | inl new ↦
         let w = get_or vs 0 no_word in
         let here = slice_get-get_or vs 0 no_word some in
-        inr (length ws + 0, w, get_second ws vs 0 w here, stand 0 w here ∙ sym new.0)
+        inr (length ws + 0, w, get_second ws vs 0 w here, appear 0 w here ∙ sym new.0)
     | inr old ↦ elim (m.marked place old.1) [ inl zero_is ↦ inl zero_is | inr f ↦ inr (f.0, f.1, get_first ws vs f.0 f.1 f.2, f.3) ]
   ]
 
@@ -152,14 +152,14 @@ module _ (words : ℕ → List Word) (conn : ℕ → ℕ → ℤ) (len : ℕ) (s
     in_order = r.in_order;
   }
 
-  module _ (ws : List Word) (p : ℕ) (us : List Word) (is_predecessor : IsChainTo words us p) (r : AreReachableBefore words p ws) where
+  module _ (ws : List Word) (p : ℕ) (us : List Word) (prefix_chain : IsChainTo words us p) (r : AreReachableBefore words p ws) where
     at_place : (j : ℕ) (w : Word) → slice_get (words p) j ≡ Some w → w.place ≡ p
     at_place j w at = source.are.places p w (Contains_from_get (words p) j w at)
 
     all_reached : (i : ℕ) (w : Word) → slice_get (ws ++ words p) i ≡ Some w → IsReached words w
     all_reached i w at = elim (get_joined ws (words p) i w at) [
       | inl old ↦ r.each i w old
-      | inr new ↦ reached_after us p w is_predecessor (Contains_from_get (words p) new.0 w new.2)
+      | inr new ↦ reached_after us p w prefix_chain (Contains_from_get (words p) new.0 w new.2)
     ]
 
     all_below : (i : ℕ) (w : Word) → slice_get (ws ++ words p) i ≡ Some w → w.place < p + 1

@@ -82,12 +82,12 @@ module _ (words : ℕ → List Word) (len : ℕ) (are : AreWords words len) wher
       let place = are.places at u chain.0 in
       let on = are.go_on at u chain.0 in
       let within = are.within at u chain.0 in
-      let is_predecessor : IsChainTo words (u ∷ vs) u.end = (refl, subst (λ (p : ℕ). Contains (words p) u) (sym place) chain.0, subst (IsChainTo words vs) (sym place) before) in
-      subst (λ (x : Word). IsReached words x × (x.place < len)) (same_Some u v here) ((vs, is_predecessor), omega (arith, place, on, within))
+      let prefix_chain : IsChainTo words (u ∷ vs) u.end = (refl, subst (λ (p : ℕ). Contains (words p) u) (sym place) chain.0, subst (IsChainTo words vs) (sym place) before) in
+      subst (λ (x : Word). IsReached words x × (x.place < len)) (same_Some u v here) ((vs, prefix_chain), omega (arith, place, on, within))
   reached_from (u ∷ us) vs at to (suc k) v before chain here =
       let place = are.places at u chain.0 in
-      let is_predecessor : IsChainTo words (u ∷ vs) u.end = (refl, subst (λ (p : ℕ). Contains (words p) u) (sym place) chain.0, subst (IsChainTo words vs) (sym place) before) in
-      reached_from us (u ∷ vs) u.end to k v is_predecessor chain.1 here
+      let prefix_chain : IsChainTo words (u ∷ vs) u.end = (refl, subst (λ (p : ℕ). Contains (words p) u) (sym place) chain.0, subst (IsChainTo words vs) (sym place) before) in
+      reached_from us (u ∷ vs) u.end to k v prefix_chain chain.1 here
 
 -- ---- all nodes
 

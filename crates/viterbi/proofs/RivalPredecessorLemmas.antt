@@ -36,7 +36,7 @@ last_on best vs w (rest, is) =
 module _ (words : ℕ → List Word) (conn : ℕ → ℕ → ℤ) (len : ℕ) (best : List Word) (linked : NodesWithNeighbors) (are : AreWithNeighbors words conn len best linked) where
   -- steps lead from a position, a right id and a cost up to the word of a node and its forward cost
   pub record LeadUpTo (n : LatticeNode) (place right : ℕ) (total : ℤ) (steps : List PathStep) : Type 0 where
-    pub is_successor : IsChain words place (words_of steps) n.word.end
+    pub steps_chain : IsChain words place (words_of steps) n.word.end
     pub steps_are : steps ≡ steps_after conn right total (words_of steps)
     pub right_is : right_after right (words_of steps) ≡ n.word.right
     pub total_is : total_after conn right total (words_of steps) ≡ n.total
@@ -64,7 +64,7 @@ module _ (words : ℕ → List Word) (conn : ℕ → ℕ → ℤ) (len : ℕ) (b
         is = ap reverse single_word_surface;
         step = step;
         follow = record {
-          is_successor = ap (λ (x : LatticeNode). x.word.end) same;
+          steps_chain = ap (λ (x : LatticeNode). x.word.end) same;
           steps_are = refl;
           right_is = ap (λ (x : LatticeNode). x.word.right) same;
           total_is = ap (λ (x : LatticeNode). x.total) same;
@@ -93,7 +93,7 @@ module _ (words : ℕ → List Word) (conn : ℕ → ℕ → ℤ) (len : ℕ) (b
         so_far.step.total ∙ sum ∙ ap (λ (c : ℤ). (total +ℤ c) +ℤ here_node.word.cost) connection
         ∙ ap (λ (x : Word). (total +ℤ conn right x.left) +ℤ x.cost) (sym word) in
         record {
-          is_successor = subst (λ (x : Word). Contains (words place) x × IsChain words x.end rest n.word.end) (sym word) (there, so_far.follow.is_successor);
+          steps_chain = subst (λ (x : Word). Contains (words place) x × IsChain words x.end rest n.word.end) (sym word) (there, so_far.follow.steps_chain);
           steps_are = steps_cons conn right total s so_far.rest hc ht
               (so_far.follow.steps_are ∙ ap (λ (x : Word). steps_after conn x.right here_node.total rest) (sym word)
               ∙ ap (λ (z : ℤ). steps_after conn s.word.right z rest) (sym so_far.step.total));
@@ -103,12 +103,12 @@ module _ (words : ℕ → List Word) (conn : ℕ → ℕ → ℤ) (len : ℕ) (b
         }
 
     next_ones : (k : ℕ) → so_far.step.link.node ≡ Some k → (m : LatticeNode) × (slice_get linked.nodes.items k ≡ Some m) × PrecedesAtLeastCost conn m so_far.step.link.connection here_node
-    next_ones k is_predecessor = subst (IsBefore conn linked.nodes.items here_node so_far.step.link.connection) is_predecessor (are.before.each at here_node so_far.step.link so_far.step.here so_far.step.linked_here)
+    next_ones k link_is = subst (IsBefore conn linked.nodes.items here_node so_far.step.link.connection) link_is (are.before.each at here_node so_far.step.link so_far.step.here so_far.step.linked_here)
 
     -- one more step
     pub back_more : (k : ℕ) (s : PathStep) (after : List PathStep) → after ≡ back ++ (s ∷ []) → so_far.step.link.node ≡ Some k → slice_get linked.on_best.items k ≡ Some false → IsStepAt linked k s → BackSoFar n k after
-    back_more k s after pushed is_predecessor off step =
-        let p = next_ones k is_predecessor in
+    back_more k s after pushed link_is off step =
+        let p = next_ones k link_is in
         let same : p.0 ≡ step.node = same_Some p.0 step.node (sym p.1 ∙ step.here) in
         let to : PrecedesAtLeastCost conn step.node so_far.step.link.connection here_node = subst (λ (x : LatticeNode). PrecedesAtLeastCost conn x so_far.step.link.connection here_node) same p.2 in
         let turn : reverse after ≡ s ∷ reverse back = ap reverse pushed ∙ reverse-append back (s ∷ []) in
@@ -132,15 +132,15 @@ module _ (words : ℕ → List Word) (conn : ℕ → ℕ → ℤ) (len : ℕ) (b
 
     stopped : (front : List Word) (place : ℕ) (reaches : Bool) → IsChainTo words front place → LeadUpTo n place (last_right front) (cost_to conn front) (so_far.first ∷ so_far.rest)
         → (reaches ≡ true) ↔ IsPrefix (reverse front) best → AreShown reaches so_far.before → IsWalkedBackward words conn best n reaches back
-    stopped front place reaches is_predecessor follow begins shown =
+    stopped front place reaches prefix_chain follow begins shown =
         let is = sym so_far.is in
         record {
           front = front;
           place = place;
           before = so_far.before;
           chosen = so_far.chosen;
-          is_predecessor = is_predecessor;
-          is_successor = subst (λ (xs : List PathStep). IsChain words place (words_of xs) n.word.end) is follow.is_successor;
+          prefix_chain = prefix_chain;
+          steps_chain = subst (λ (xs : List PathStep). IsChain words place (words_of xs) n.word.end) is follow.steps_chain;
           steps_are = subst (λ (xs : List PathStep). xs ≡ steps_after conn (last_right front) (cost_to conn front) (words_of xs)) is follow.steps_are;
           parts = so_far.parts;
           chosen_is = so_far.chosen_is;
@@ -160,21 +160,21 @@ module _ (words : ℕ → List Word) (conn : ℕ → ℕ → ℤ) (len : ℕ) (b
         stopped [] 0 true refl (with_first 0 0 (pos 0) (sym b.place) b.connection_is b.total_is) (λ e. (best, refl), λ p. refl) (all_shown few)
 
     pub back_to_best : (k : ℕ) → length back ≤ STEPS_MAX + 1 → so_far.step.link.node ≡ Some k → slice_get linked.on_best.items k ≡ Some true → IsWalkedBackward words conn best n true back
-    back_to_best k few is_predecessor on =
-        let p = next_ones k is_predecessor in
+    back_to_best k few link_is on =
+        let p = next_ones k link_is in
         let m = p.0 in
         let has = on_best_there words conn len best linked are k m p.1 on in
         let up_to = are.forward_costs k m p.1 in
         let sp = split words conn len are.lattice.source best are.best_is m.word m.total up_to has in
         let e : m.total ≡ cost_to conn (m.word ∷ sp.before) = total_on_best words conn len are.lattice.source best are.best_is m.word m.total up_to has in
         let sum = p.2.total_is in
-        stopped (m.word ∷ sp.before) m.word.end true sp.is_predecessor
+        stopped (m.word ∷ sp.before) m.word.end true sp.prefix_chain
         (with_first m.word.end m.word.right (cost_to conn (m.word ∷ sp.before)) p.2.meet p.2.connection_is (sum ∙ ap (λ (z : ℤ). (z +ℤ so_far.step.link.connection) +ℤ here_node.word.cost) e))
         (λ e. (sp.after, sp.is), λ q. refl) (all_shown few)
 
     pub back_cut : (k : ℕ) → length back ≤ STEPS_MAX + 1 → STEPS_MAX < length back → so_far.step.link.node ≡ Some k → slice_get linked.on_best.items k ≡ Some false → IsWalkedBackward words conn best n false back
-    back_cut k few many is_predecessor off =
-        let p = next_ones k is_predecessor in
+    back_cut k few many link_is off =
+        let p = next_ones k link_is in
         let m = p.0 in
         let up = (are.forward_costs k m p.1).0 in
         let sum = p.2.total_is in

@@ -70,7 +70,7 @@ module _ (t : SearchedText) (source : CanBeSearched t) (path : List Word) (best 
   pub kept : IsRivalsState l bests
   kept = record {
     held = record {
-      reported = on.long;
+      on_best_long = on.long;
       before_long = before.long;
       after_long = after.long;
       before_within = before_within t.words t.connection l.nodes.items l.before.items before;

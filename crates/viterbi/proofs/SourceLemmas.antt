@@ -46,6 +46,6 @@ module _ (t : SearchedText) (r : ReachableWords) (source : CanBeSearched t) (rea
   total_small k w None at h = let b = total_there k w None at h in none-some b.0 b.1
   total_small k w (Some x) at h = small_up_to t.words t.connection t.text_length source.source w x.cost source.short (ends_within k w at) h.0
 
-  pub rest_small : (k : ℕ) (w : Word) (o : Option ChainCost) → slice_get r.words.items k ≡ Some w → IsLeastOf (CostsToEos t.words t.connection w) (number_of o) → IsSmallIfSome o
-  rest_small k w None at h = tt
-  rest_small k w (Some x) at h = small_on t.words t.connection t.text_length source.source w x.cost source.short (ends_within k w at) h.0
+  pub backward_small : (k : ℕ) (w : Word) (o : Option ChainCost) → slice_get r.words.items k ≡ Some w → IsLeastOf (CostsToEos t.words t.connection w) (number_of o) → IsSmallIfSome o
+  backward_small k w None at h = tt
+  backward_small k w (Some x) at h = small_on t.words t.connection t.text_length source.source w x.cost source.short (ends_within k w at) h.0

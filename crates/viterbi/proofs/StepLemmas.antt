@@ -15,9 +15,9 @@ use Rattle.viterbi.specs.Nodes.ReachableWords.{AreReachedIn, IsFirstFrom}
 use Rattle.viterbi.specs.Nodes.BackwardCosts.{AreBackwardCostsFrom, CostsToEos, CostsToEosBelow, IsEosCost, IsLastEnd, IsLeastWith, IsBackwardCostAt}
 use Rattle.viterbi.specs.Nodes.ForwardCosts.{ArePropagatedIn, AreForwardCostsIn, CostsUpToBelow, IsFirstForwardCost}
 use Rattle.viterbi.proofs.ReachableLemmas.{between_firsts}
-use Rattle.viterbi.proofs.BackwardCostLemmas.{ended_none, ended_some, goes_not_on, goes_on_with, rest_begins, rest_ends}
-use Rattle.viterbi.proofs.SourceLemmas.{rest_small, total_small, total_there}
-use Rattle.viterbi.proofs.ForwardCostLemmas.{begun_none, begun_some, passed_all, passed_from, passed_to, stands_earlier, total_known, word_there}
+use Rattle.viterbi.proofs.BackwardCostLemmas.{ended_none, ended_some, goes_not_on, goes_on_with, backward_begins, backward_ends}
+use Rattle.viterbi.proofs.SourceLemmas.{backward_small, total_small, total_there}
+use Rattle.viterbi.proofs.ForwardCostLemmas.{started_none, started_some, passed_all, passed_from, passed_to, appears_earlier, total_known, word_there}
 
 -- what holds of words and costs at one index, with one more cost
 pub holds_pushed : (P : Word → Option ChainCost → Type 0) (ws : List Word) (os after : List (Option ChainCost)) (o : Option ChainCost) (i : ℕ) (w : Word) → length os ≡ i → slice_get ws i ≡ Some w → after ≡ os ++ o ∷ [] → P w o
@@ -35,17 +35,17 @@ module _ (t : SearchedText) (r : ReachableWords) (source : CanBeSearched t) (rea
   -- ---- the first costs in both directions
 
   pub started : (i : ℕ) (w : Word) (o : Option ChainCost) → slice_get r.words.items i ≡ Some w → IsFirstForwardCost t w o → IsLeastOf (CostsUpToBelow t.words t.connection r.words.items 0 w) (number_of o)
-  started i w None at h = begun_none t.words t.connection t.text_length source.source r.words.items reached.are w h
-  started i w (Some x) at h = begun_some t.words t.connection t.text_length source.source r.words.items reached.are i w x.cost at h.0 h.1
+  started i w None at h = started_none t.words t.connection t.text_length source.source r.words.items reached.are w h
+  started i w (Some x) at h = started_some t.words t.connection t.text_length source.source r.words.items reached.are i w x.cost at h.0 h.1
 
   pub ended : (last i : ℕ) (w : Word) (o : Option ChainCost) → IsLastEnd r.words.items last → slice_get r.words.items i ≡ Some w → IsEosCost t last w o → IsLeastOf (CostsToEosBelow t.words t.connection r.words.items 0 w) (number_of o)
   ended last i w None is_last at h = ended_none t.words t.connection t.text_length source.source r.words.items reached.are last is_last i w at h
   ended last i w (Some x) is_last at h = ended_some t.words t.connection t.text_length source.source r.words.items reached.are last is_last w x.cost h.0 h.1
 
-  pub begun_all : (forward_costs : List (Option ChainCost)) → length forward_costs ≡ length r.words.items
+  pub started_all : (forward_costs : List (Option ChainCost)) → length forward_costs ≡ length r.words.items
       → ((k : ℕ) (w : Word) (o : Option ChainCost) → slice_get r.words.items k ≡ Some w → slice_get forward_costs k ≡ Some o → IsLeastOf (CostsUpToBelow t.words t.connection r.words.items 0 w) (number_of o))
       → ArePropagatedIn t r 0 0 forward_costs
-  begun_all forward_costs long each = record {
+  started_all forward_costs long each = record {
     long = long;
     past = λ k w o less at_w at_o. absurd (omega (arith, less));
     rest = λ k w o low at_w at_o. each k w o at_w at_o;
@@ -61,8 +61,8 @@ module _ (t : SearchedText) (r : ReachableWords) (source : CanBeSearched t) (rea
   }
 
   -- the forward costs of all words were propagated
-  pub totals_all : (forward_costs : List (Option ChainCost)) → ArePropagatedIn t r (length r.words.items) 0 forward_costs → AreForwardCostsIn t r forward_costs
-  totals_all forward_costs a = record {
+  pub forward_costs_all : (forward_costs : List (Option ChainCost)) → ArePropagatedIn t r (length r.words.items) 0 forward_costs → AreForwardCostsIn t r forward_costs
+  forward_costs_all forward_costs a = record {
     long = a.long;
     each = λ k w o at_w at_o. total_known t.words t.connection t.text_length source.source r.words.items reached.are k (length r.words.items) w (number_of o) at_w
         (let l = slice_get_within r.words.items k w at_w in omega (arith, l)) (a.rest k w o (omega arith) at_w at_o);
@@ -117,17 +117,17 @@ module _ (t : SearchedText) (r : ReachableWords) (source : CanBeSearched t) (rea
         next_later =
             let on = source.source.are.go_on w.place w (word_there t.words t.connection t.text_length source.source r.words.items reached.are n w at) in
             let e = next_follows in
-            stands_earlier t.words t.connection t.text_length source.source r.words.items reached.are n k w v at at_v (omega (arith, on, e))
+            appears_earlier t.words t.connection t.text_length source.source r.words.items reached.are n k w v at at_v (omega (arith, on, e))
 
-        next_rest : IsLeastOf (CostsToEos t.words t.connection v) (number_of (get_or backward_costs k None))
-        next_rest =
+        next_backward : IsLeastOf (CostsToEos t.words t.connection v) (number_of (get_or backward_costs k None))
+        next_backward =
             let long = later.long in
             let within = slice_get_within r.words.items k v at_v in
             let after = next_later in
             later.known k v (get_or backward_costs k None) (omega (arith, after)) at_v (slice_get-get_or backward_costs k None (omega (arith, within, long)))
 
         pub next_small : IsSmallIfSome (get_or backward_costs k None)
-        next_small = rest_small t r source reached k v (get_or backward_costs k None) at_v next_rest
+        next_small = backward_small t r source reached k v (get_or backward_costs k None) at_v next_backward
 
         with_next : (least rest result : Option ChainCost) → IsLeastWith t least rest w.right v result → IsLeastOf (CostsToEos t.words t.connection v) (number_of rest)
             → IsLeastOf (CostsToEosBelow t.words t.connection r.words.items k w) (number_of least) → IsLeastOf (CostsToEosBelow t.words t.connection r.words.items (k + 1) w) (number_of result)
@@ -139,23 +139,23 @@ module _ (t : SearchedText) (r : ReachableWords) (source : CanBeSearched t) (rea
             let found : ChainCost = record { cost = (rest.cost +ℤ t.connection w.right v.left) +ℤ v.cost } in
             goes_on_with t.words t.connection t.text_length source.source r.words.items reached.are w k v at_v next_follows rest.cost least found result h refl l b
 
-        pub rest_next : (least result : Option ChainCost) → IsLeastWith t least (get_or backward_costs k None) w.right v result
+        pub backward_next : (least result : Option ChainCost) → IsLeastWith t least (get_or backward_costs k None) w.right v result
             → IsLeastOf (CostsToEosBelow t.words t.connection r.words.items k w) (number_of least) → IsLeastOf (CostsToEosBelow t.words t.connection r.words.items (k + 1) w) (number_of result)
-        rest_next least result l b = with_next least (get_or backward_costs k None) result l next_rest b
+        backward_next least result l b = with_next least (get_or backward_costs k None) result l next_backward b
 
     -- its backward cost
 
-    pub rest_first : (backward_costs : List (Option ChainCost)) (first : ℕ) → AreBackwardCostsFrom t r (n + 1) backward_costs → IsFirstFrom r.words.items w.end first
+    pub backward_first : (backward_costs : List (Option ChainCost)) (first : ℕ) → AreBackwardCostsFrom t r (n + 1) backward_costs → IsFirstFrom r.words.items w.end first
         → IsLeastOf (CostsToEosBelow t.words t.connection r.words.items first w) (number_of (get_or backward_costs n None))
-    rest_first backward_costs first later f =
+    backward_first backward_costs first later f =
         let long = later.long in
         let low = slice_get_within r.words.items n w at in
-        rest_begins t.words t.connection t.text_length source.source r.words.items reached.are w first (number_of (get_or backward_costs n None)) f
+        backward_begins t.words t.connection t.text_length source.source r.words.items reached.are w first (number_of (get_or backward_costs n None)) f
         (later.ended n w (get_or backward_costs n None) (omega arith) at (slice_get-get_or backward_costs n None (omega (arith, low, long))))
 
-    pub rest_last : (next_ones : ℕ) (o : Option ChainCost) → IsFirstFrom r.words.items (w.end + 1) next_ones
+    pub backward_last : (next_ones : ℕ) (o : Option ChainCost) → IsFirstFrom r.words.items (w.end + 1) next_ones
         → IsLeastOf (CostsToEosBelow t.words t.connection r.words.items next_ones w) (number_of o) → IsBackwardCostAt t r n o
-    rest_last next_ones o g h u at_u =
+    backward_last next_ones o g h u at_u =
         let same : w ≡ u = same_Some w u (sym at ∙ at_u) in
         subst (λ (x : Word). IsLeastOf (CostsToEos t.words t.connection x) (number_of o)) same
-        (rest_ends t.words t.connection t.text_length source.source r.words.items reached.are w next_ones (number_of o) (reached.are.each n w at) g h)
+        (backward_ends t.words t.connection t.text_length source.source r.words.items reached.are w next_ones (number_of o) (reached.are.each n w at) g h)

@@ -22,7 +22,7 @@ use Rattle.viterbi.specs.declared.rivals.neighbor.Neighbor.{Neighbor}
 use Rattle.viterbi.specs.declared.rivals.nodes_with_neighbors.NodesWithNeighbors.{NodesWithNeighbors}
 use Rattle.viterbi.specs.declared.rivals.rival_path.TheConstants.{STEPS_MAX}
 use Rattle.viterbi.specs.declared.rivals.step.PathStep.{PathStep}
-use Rattle.viterbi.proofs.BestPathLemmas.{rest_least, rest_on_best, split}
+use Rattle.viterbi.proofs.BestPathLemmas.{backward_least, backward_on_best, split}
 use Rattle.viterbi.proofs.JoinedLemmas.{chain_append, cost_tail, off_append, right_append, steps_cons, steps_joined, total_append, turned}
 use Rattle.viterbi.proofs.NeighborLemmas.{off_best, on_best_there, through_at, word_at}
 
@@ -37,7 +37,7 @@ module _ (words : ℕ → List Word) (conn : ℕ → ℕ → ℤ) (len : ℕ) (b
     pub here : slice_get linked.nodes.items at ≡ Some node
     pub through : ℤ
     pub has_through : node.through ≡ Some through
-    pub is_successor : IsChain words n.word.end (words_of on) node.word.end
+    pub steps_chain : IsChain words n.word.end (words_of on) node.word.end
     pub steps_are : on ≡ steps_after conn n.word.right n.total (words_of on)
     pub right_is : right_after n.word.right (words_of on) ≡ node.word.right
     pub total_is : total_after conn n.word.right n.total (words_of on) ≡ total
@@ -50,7 +50,7 @@ module _ (words : ℕ → List Word) (conn : ℕ → ℕ → ℤ) (len : ℕ) (b
     here = here;
     through = cost;
     has_through = through;
-    is_successor = refl;
+    steps_chain = refl;
     steps_are = refl;
     right_is = refl;
     total_is = is;
@@ -63,16 +63,16 @@ module _ (words : ℕ → List Word) (conn : ℕ → ℕ → ℤ) (len : ℕ) (b
     after_it = subst (λ (o : Option ℤ). IsAfterIfSome words conn linked.nodes.items so_far.node o link) so_far.has_through (are.after.each at so_far.node link so_far.here linked_here)
 
     next_node : (k : ℕ) → link.node ≡ Some k → (m : LatticeNode) × (slice_get linked.nodes.items k ≡ Some m) × ContinuesWith conn so_far.node so_far.through link.connection m
-    next_node k is_predecessor = subst (IsAfter words conn linked.nodes.items so_far.node so_far.through link.connection) is_predecessor after_it
+    next_node k link_is = subst (IsAfter words conn linked.nodes.items so_far.node so_far.through link.connection) link_is after_it
 
     follows : (m : LatticeNode) (k : ℕ) → slice_get linked.nodes.items k ≡ Some m → m.word.place ≡ so_far.node.word.end → Contains (words so_far.node.word.end) m.word
     follows m k here meet = subst (λ (q : ℕ). Contains (words q) m.word) meet (word_at words conn len best linked are k m here)
 
     -- one more step
-    module _ (k : ℕ) (s : PathStep) (after : List PathStep) (pushed : after ≡ on ++ (s ∷ [])) (is_predecessor : link.node ≡ Some k) (off : slice_get linked.on_best.items k ≡ Some false) (m : LatticeNode) (there : slice_get linked.nodes.items k ≡ Some m) where
+    module _ (k : ℕ) (s : PathStep) (after : List PathStep) (pushed : after ≡ on ++ (s ∷ [])) (link_is : link.node ≡ Some k) (off : slice_get linked.on_best.items k ≡ Some false) (m : LatticeNode) (there : slice_get linked.nodes.items k ≡ Some m) where
       goes : ContinuesWith conn so_far.node so_far.through link.connection m
       goes =
-          let p = next_node k is_predecessor in
+          let p = next_node k link_is in
           subst (ContinuesWith conn so_far.node so_far.through link.connection) (same_Some p.0 m (sym p.1 ∙ there)) p.2
 
       words_are : words_of after ≡ words_of on ++ (s.word ∷ [])
@@ -95,8 +95,8 @@ module _ (words : ℕ → List Word) (conn : ℕ → ℕ → ℤ) (len : ℕ) (b
             here = there;
             through = goes.through;
             has_through = goes.has_through;
-            is_successor = subst (λ (us : List Word). IsChain words n.word.end us m.word.end) (sym words_are)
-                (chain_append words (words_of on) (s.word ∷ []) n.word.end so_far.node.word.end m.word.end so_far.is_successor
+            steps_chain = subst (λ (us : List Word). IsChain words n.word.end us m.word.end) (sym words_are)
+                (chain_append words (words_of on) (s.word ∷ []) n.word.end so_far.node.word.end m.word.end so_far.steps_chain
                 (subst (Contains (words so_far.node.word.end)) (sym word) (follows m k there goes.meet), ap (λ (x : Word). x.end) word));
             steps_are = pushed ∙ steps_joined conn on (s ∷ []) n.word.right n.total so_far.steps_are (steps_cons conn right sum_so_far s [] hc ht refl)
                 ∙ ap (λ (us : List PathStep). steps_after conn n.word.right n.total (words_of us)) (sym pushed);
@@ -111,10 +111,10 @@ module _ (words : ℕ → List Word) (conn : ℕ → ℕ → ℤ) (len : ℕ) (b
 
     stopped : (back : List Word) (to : ℕ) (reaches : Bool) → IsChain words so_far.node.word.end back to → IsLongest words to → cost ≡ total +ℤ cost_after conn so_far.node.word.right back
         → (reaches ≡ true) ↔ IsSuffix back best → AreShown reaches on → IsWalkedForward words conn best n cost reaches on
-    stopped back to reaches is_successor longest cost_is ends shown = record {
+    stopped back to reaches steps_chain longest cost_is ends shown = record {
       back = back;
       to = to;
-      is_successor = chain_append words (words_of on) back n.word.end so_far.node.word.end to so_far.is_successor is_successor;
+      steps_chain = chain_append words (words_of on) back n.word.end so_far.node.word.end to so_far.steps_chain steps_chain;
       longest = longest;
       steps_are = so_far.steps_are;
       cost_is = cost_is ∙ sym (cost_tail conn (words_of on) back n.word.right n.total
@@ -146,21 +146,21 @@ module _ (words : ℕ → List Word) (conn : ℕ → ℕ → ℤ) (len : ℕ) (b
         stopped (m.word ∷ ws) to reaches (follows m k there goes.meet, chain) longest (omega (arith, ints, a, b, c, rest)) ends shown
 
     pub on_to_best : (k : ℕ) → length on ≤ STEPS_MAX → link.node ≡ Some k → slice_get linked.on_best.items k ≡ Some true → IsWalkedForward words conn best n cost true on
-    on_to_best k few is_predecessor on_best =
-        let p = next_node k is_predecessor in
+    on_to_best k few link_is on_best =
+        let p = next_node k link_is in
         let m = p.0 in
         let has = on_best_there words conn len best linked are k m p.1 on_best in
         let up_to = are.forward_costs k m p.1 in
         let sp = split words conn len are.lattice.source best are.best_is m.word m.total up_to has in
-        let rest = rest_on_best words conn len are.lattice.source best are.best_is m.word m.total up_to has p.2.through (through_at words conn len best linked are k m (Some p.2.through) p.1 p.2.has_through) in
-        stopped_before m k sp.after are.best_is.to true p.1 p.2 sp.is_successor are.best_is.path.longest rest
+        let rest = backward_on_best words conn len are.lattice.source best are.best_is m.word m.total up_to has p.2.through (through_at words conn len best linked are k m (Some p.2.through) p.1 p.2.has_through) in
+        stopped_before m k sp.after are.best_is.to true p.1 p.2 sp.suffix_chain are.best_is.path.longest rest
         (λ t. (reverse sp.before, sp.is ∙ sym (turned m.word sp.before sp.after)), λ q. refl) (all_shown few)
 
     pub on_cut : (k : ℕ) → length on ≤ STEPS_MAX → STEPS_MAX ≤ length on → link.node ≡ Some k → slice_get linked.on_best.items k ≡ Some false → IsWalkedForward words conn best n cost false on
-    on_cut k few many is_predecessor off =
-        let p = next_node k is_predecessor in
+    on_cut k few many link_is off =
+        let p = next_node k link_is in
         let m = p.0 in
-        let rest = (rest_least words conn len are.lattice.source m.word m.total (are.forward_costs k m p.1) p.2.through (through_at words conn len best linked are k m (Some p.2.through) p.1 p.2.has_through)).0 in
+        let rest = (backward_least words conn len are.lattice.source m.word m.total (are.forward_costs k m p.1) p.2.through (through_at words conn len best linked are k m (Some p.2.through) p.1 p.2.has_through)).0 in
         let is = rest.4 in stopped_before m k rest.0 rest.1 false p.1 p.2 rest.2 rest.3 (omega (arith, ints, is))
         (λ e. absurd (cc), λ q. absurd (off_best words conn len best linked are k m p.1 off (first_on best rest.0 m.word q)))
         (record { few = few; left_out = λ e. omega (arith, few, many) })

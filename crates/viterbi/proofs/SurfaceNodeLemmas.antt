@@ -11,7 +11,7 @@ use Rattle.mj_model.specs.Surfaces.{IsWhole, HasSameSpan}
 use Rattle.viterbi.specs.declared.search.node.SurfaceNodes.{SurfaceNodes}
 use Rattle.viterbi.specs.declared.search.node.Backpointer.{Backpointer}
 use Rattle.viterbi.specs.Search.Nodes.{AreSurfaceNodes, HasNode, HaveRights, Node, stored_node, node_words, nodes_of, words_of_surface_nodes}
-use Rattle.viterbi.proofs.Pushed.{get_front, get_push_cases}
+use Rattle.viterbi.proofs.Pushed.{get_prefix, get_push_cases}
 use Rattle.viterbi.proofs.WordNumbers.{holds_in, no_surface, no_word}
 
 -- ---- words with their backpointers
@@ -56,7 +56,7 @@ rights_push ws bs w b next right rights i v c at_v at_c = elim (get_push_cases b
 pub rights_more : (ws vs : List Word) (bs : List Backpointer) → length bs ≤ length ws → HaveRights ws bs → HaveRights (ws ++ vs) bs
 rights_more ws vs bs le rights i w b at_w at_b =
     let low = slice_get_within bs i b at_b in
-    rights i w b (sym (get_front ws vs i (omega (arith, low, le))) ∙ at_w) at_b
+    rights i w b (sym (get_prefix ws vs i (omega (arith, low, le))) ∙ at_w) at_b
 
 -- a node has a word and a backpointer
 pub record IsKept (ws : List Word) (bs : List Backpointer) (i : ℕ) (n : Node) : Type 0 where
@@ -93,8 +93,8 @@ next_word ws before fs n i w is at long =
 abbrev pub no_back : Backpointer
 no_back = record { total = pos 0; before = 0; right = 0 }
 
-abbrev pub no_bundle : SurfaceNodes
-no_bundle = record { surface = no_surface; from = 0; next = 0 }
+abbrev pub no_group : SurfaceNodes
+no_group = record { surface = no_surface; from = 0; next = 0 }
 
 module _ (f : Surface → List Word) where
   -- how many nodes the first groups have
@@ -115,8 +115,8 @@ module _ (f : Surface → List Word) where
       omega (arith, more, x, y)
 
   -- after the groups before a node there is one more
-  pub bundle_before : (by_surface : List SurfaceNodes) (number node : ℕ) → start by_surface number ≤ node → node < length (node_words f by_surface) → number < length by_surface
-  bundle_before by_surface number node next_ones less = elim (cases_lt number (length by_surface)) [
+  pub group_before : (by_surface : List SurfaceNodes) (number node : ℕ) → start by_surface number ≤ node → node < length (node_words f by_surface) → number < length by_surface
+  group_before by_surface number node next_ones less = elim (cases_lt number (length by_surface)) [
     | inl within ↦ within
     | inr past ↦
         let all : start by_surface number ≡ length (node_words f by_surface) = ap (λ (rs : List SurfaceNodes). length (node_words f rs)) (take_all number by_surface past) in
@@ -127,8 +127,8 @@ module _ (f : Surface → List Word) where
   pub words_push : (by_surface : List SurfaceNodes) (r : SurfaceNodes) → node_words f (by_surface ++ r ∷ []) ≡ node_words f by_surface ++ words_of_surface_nodes f r
   words_push by_surface r = flat_map-append (words_of_surface_nodes f) by_surface (r ∷ []) ∙ ap (λ (ws : List Word). node_words f by_surface ++ ws) (append-nil (words_of_surface_nodes f r))
 
-  pub bundles_push : (by_surface : List SurfaceNodes) (r : SurfaceNodes) → AreSurfaceNodes f by_surface → IsWhole f r.surface → r.from ≡ length (node_words f by_surface) → AreSurfaceNodes f (by_surface ++ r ∷ [])
-  bundles_push by_surface r are whole from = record {
+  pub groups_push : (by_surface : List SurfaceNodes) (r : SurfaceNodes) → AreSurfaceNodes f by_surface → IsWhole f r.surface → r.from ≡ length (node_words f by_surface) → AreSurfaceNodes f (by_surface ++ r ∷ [])
+  groups_push by_surface r are whole from = record {
     whole = λ number surface_nodes at. elim (get_push_cases by_surface r number surface_nodes at) [ inl old ↦ are.whole number surface_nodes old | inr new ↦ subst (λ (x : SurfaceNodes). IsWhole f x.surface) new.1 whole ];
     from = λ number surface_nodes at. elim (get_push_cases by_surface r number surface_nodes at) [
       | inl old ↦ are.from number surface_nodes old ∙ ap (λ (rs : List SurfaceNodes). length (node_words f rs)) (sym (take-append-le number by_surface (r ∷ []) (let w = slice_get_within by_surface number surface_nodes old in omega (arith, w))))
@@ -148,8 +148,8 @@ module _ (f : Surface → List Word) where
 
   module _ (by_surface : List SurfaceNodes) (are : AreSurfaceNodes f by_surface) where
     -- after a group comes the next one
-    pub next_bundle : (number : ℕ) (surface_nodes : SurfaceNodes) → slice_get by_surface number ≡ Some surface_nodes → start by_surface (number + 1) ≡ surface_nodes.from + surface_nodes.surface.count
-    next_bundle number surface_nodes at =
+    pub next_group : (number : ℕ) (surface_nodes : SurfaceNodes) → slice_get by_surface number ≡ Some surface_nodes → start by_surface (number + 1) ≡ surface_nodes.from + surface_nodes.surface.count
+    next_group number surface_nodes at =
         let within = slice_get_within by_surface number surface_nodes at in
         let here = get_or_from_slice_get by_surface number surface_nodes surface_nodes at in
         let split = take_more by_surface number surface_nodes within ∙ ap (λ (r : SurfaceNodes). take number by_surface ++ r ∷ []) here in
@@ -159,8 +159,8 @@ module _ (f : Surface → List Word) where
         omega (arith, long, own, from)
 
     -- word count - 1 - left of the surface is that of the node so many after the first
-    pub bundle_word : (number : ℕ) (surface_nodes : SurfaceNodes) (left : ℕ) (w : Word) → slice_get by_surface number ≡ Some surface_nodes → left < surface_nodes.surface.count → slice_get (f surface_nodes.surface) (surface_nodes.surface.count - 1 - left) ≡ Some w → slice_get (node_words f by_surface) (surface_nodes.from + left) ≡ Some w
-    bundle_word number surface_nodes left w at less at_w =
+    pub group_word : (number : ℕ) (surface_nodes : SurfaceNodes) (left : ℕ) (w : Word) → slice_get by_surface number ≡ Some surface_nodes → left < surface_nodes.surface.count → slice_get (f surface_nodes.surface) (surface_nodes.surface.count - 1 - left) ≡ Some w → slice_get (node_words f by_surface) (surface_nodes.from + left) ≡ Some w
+    group_word number surface_nodes left w at less at_w =
         let within = slice_get_within by_surface number surface_nodes at in
         let here = get_or_from_slice_get by_surface number surface_nodes surface_nodes at in
         let count = (are.whole number surface_nodes at).count_is in
@@ -174,26 +174,26 @@ module _ (f : Surface → List Word) where
         ∙ ap Some (ap (λ (n : ℕ). get_or (node_words f by_surface) (n + left) w) from ∙ value)
 
     -- each node is in a group
-    pub bundle_of_node : (n i : ℕ) → n ≤ length by_surface → i < start by_surface n → (number : ℕ) × (number < n) × HasNode by_surface number i
-    bundle_of_node zero i le less = absurd (omega (arith, less))
-    bundle_of_node (suc n) i le less =
-        let surface_nodes = get_or by_surface n no_bundle in
-        let at = slice_get-get_or by_surface n no_bundle (omega (arith, le)) in
-        let end = next_bundle n surface_nodes at in
+    pub group_of_node : (n i : ℕ) → n ≤ length by_surface → i < start by_surface n → (number : ℕ) × (number < n) × HasNode by_surface number i
+    group_of_node zero i le less = absurd (omega (arith, less))
+    group_of_node (suc n) i le less =
+        let surface_nodes = get_or by_surface n no_group in
+        let at = slice_get-get_or by_surface n no_group (omega (arith, le)) in
+        let end = next_group n surface_nodes at in
         let from = are.from n surface_nodes at in
         let same : suc n ≡ n + 1 = omega arith in
         let low = subst (λ (k : ℕ). i < start by_surface k) same less in
         elim (cases_lt i (start by_surface n)) [
-          | inl before ↦ let r = bundle_of_node n i (omega (arith, le)) before in let m = r.1 in (r.0, omega (arith, m), r.2)
+          | inl before ↦ let r = group_of_node n i (omega (arith, le)) before in let m = r.1 in (r.0, omega (arith, m), r.2)
           | inr more ↦ (n, omega arith, record { surface_nodes = surface_nodes; here = at; from = omega (arith, more, from); within = omega (arith, low, end) })
         ]
 
-    pub bundle_of_any : (i : ℕ) → i < length (node_words f by_surface) → (number : ℕ) × HasNode by_surface number i
-    bundle_of_any i less = let r = bundle_of_node (length by_surface) i (omega arith) (subst (λ (rs : List SurfaceNodes). i < length (node_words f rs)) (sym (take_all (length by_surface) by_surface (omega arith))) less) in (r.0, r.2)
+    pub group_of_any : (i : ℕ) → i < length (node_words f by_surface) → (number : ℕ) × HasNode by_surface number i
+    group_of_any i less = let r = group_of_node (length by_surface) i (omega arith) (subst (λ (rs : List SurfaceNodes). i < length (node_words f rs)) (sym (take_all (length by_surface) by_surface (omega arith))) less) in (r.0, r.2)
 
     -- its word is one of the group's surface
-    pub bundle_end : (number i : ℕ) (w : Word) → (h : HasNode by_surface number i) → slice_get (node_words f by_surface) i ≡ Some w → w.end ≡ h.surface_nodes.surface.end
-    bundle_end number i w h at =
+    pub group_end : (number i : ℕ) (w : Word) → (h : HasNode by_surface number i) → slice_get (node_words f by_surface) i ≡ Some w → w.end ≡ h.surface_nodes.surface.end
+    group_end number i w h at =
         let surface_nodes = h.surface_nodes in
         let low = h.from in
         let high = h.within in
@@ -205,62 +205,62 @@ module _ (f : Surface → List Word) where
         let k = surface_nodes.surface.count - 1 - left in
         let at_k = slice_get-get_or (f surface_nodes.surface) k w (omega (arith, less, count)) in
         let v = get_or (f surface_nodes.surface) k w in
-        let same : v ≡ w = same_Some v w (sym (bundle_word number surface_nodes left v h.here less at_k) ∙ ap (slice_get (node_words f by_surface)) split ∙ at) in
-        ap (λ (u : Word). u.end) (sym same) ∙ (holds_in (HasSameSpan surface_nodes.surface) (f surface_nodes.surface) k v whole.stand at_k).end
+        let same : v ≡ w = same_Some v w (sym (group_word number surface_nodes left v h.here less at_k) ∙ ap (slice_get (node_words f by_surface)) split ∙ at) in
+        ap (λ (u : Word). u.end) (sym same) ∙ (holds_in (HasSameSpan surface_nodes.surface) (f surface_nodes.surface) k v whole.same_spans at_k).end
 
     -- the nodes of a group are among all
-    pub bundle_within : (number : ℕ) (surface_nodes : SurfaceNodes) → slice_get by_surface number ≡ Some surface_nodes → surface_nodes.from + surface_nodes.surface.count ≤ length (node_words f by_surface)
-    bundle_within number surface_nodes at =
-        let next = next_bundle number surface_nodes at in
+    pub group_within : (number : ℕ) (surface_nodes : SurfaceNodes) → slice_get by_surface number ≡ Some surface_nodes → surface_nodes.from + surface_nodes.surface.count ≤ length (node_words f by_surface)
+    group_within number surface_nodes at =
+        let next = next_group number surface_nodes at in
         let rise = starts_rise by_surface (number + 1) (length by_surface) (let w = slice_get_within by_surface number surface_nodes at in omega (arith, w)) in
         let end = ap (λ (rs : List SurfaceNodes). length (node_words f rs)) (take_all (length by_surface) by_surface (omega arith)) in
         omega (arith, next, rise, end)
 
     -- the word of a node, by the number of its group
     pub node_has_word : (number node : ℕ) (w : Word) → HasNode by_surface number node
-        → slice_get (f (get_or by_surface number no_bundle).surface) ((get_or by_surface number no_bundle).surface.count - 1 - (node - (get_or by_surface number no_bundle).from)) ≡ Some w → slice_get (node_words f by_surface) node ≡ Some w
+        → slice_get (f (get_or by_surface number no_group).surface) ((get_or by_surface number no_group).surface.count - 1 - (node - (get_or by_surface number no_group).from)) ≡ Some w → slice_get (node_words f by_surface) node ≡ Some w
     node_has_word number node w h at_w =
-        let r = get_or by_surface number no_bundle in
-        let at = slice_get-get_or by_surface number no_bundle (slice_get_within by_surface number h.surface_nodes h.here) in
+        let r = get_or by_surface number no_group in
+        let at = slice_get-get_or by_surface number no_group (slice_get_within by_surface number h.surface_nodes h.here) in
         let same : h.surface_nodes ≡ r = same_Some h.surface_nodes r (sym h.here ∙ at) in
         let low : r.from ≤ node = subst (λ (x : SurfaceNodes). x.from ≤ node) same h.from in
         let high : node < r.from + r.surface.count = subst (λ (x : SurfaceNodes). node < x.from + x.surface.count) same h.within in
         let split : r.from + (node - r.from) ≡ node = omega (arith, low) in
-        subst (λ (i : ℕ). slice_get (node_words f by_surface) i ≡ Some w) split (bundle_word number r (node - r.from) w at (omega (arith, low, high)) at_w)
+        subst (λ (i : ℕ). slice_get (node_words f by_surface) i ≡ Some w) split (group_word number r (node - r.from) w at (omega (arith, low, high)) at_w)
 
     -- the word of a node is one of its group's
     pub node_word_within : (number node : ℕ) → HasNode by_surface number node
-        → (get_or by_surface number no_bundle).surface.count - 1 - (node - (get_or by_surface number no_bundle).from) < length (f (get_or by_surface number no_bundle).surface)
+        → (get_or by_surface number no_group).surface.count - 1 - (node - (get_or by_surface number no_group).from) < length (f (get_or by_surface number no_group).surface)
     node_word_within number node h =
-        let r = get_or by_surface number no_bundle in
-        let at = slice_get-get_or by_surface number no_bundle (slice_get_within by_surface number h.surface_nodes h.here) in
+        let r = get_or by_surface number no_group in
+        let at = slice_get-get_or by_surface number no_group (slice_get_within by_surface number h.surface_nodes h.here) in
         let count = (are.whole number r at).count_is in
         let some = (are.whole number r at).some in
         omega (arith, count, some)
 
     -- a word of a surface ends at the end of its group
-    pub word_stands : (number : ℕ) (surface_nodes : SurfaceNodes) (k : ℕ) (w : Word) → slice_get by_surface number ≡ Some surface_nodes → slice_get (f surface_nodes.surface) k ≡ Some w → w.end ≡ surface_nodes.surface.end
-    word_stands number surface_nodes k w at at_w = (holds_in (HasSameSpan surface_nodes.surface) (f surface_nodes.surface) k w (are.whole number surface_nodes at).stand at_w).end
+    pub word_appears : (number : ℕ) (surface_nodes : SurfaceNodes) (k : ℕ) (w : Word) → slice_get by_surface number ≡ Some surface_nodes → slice_get (f surface_nodes.surface) k ≡ Some w → w.end ≡ surface_nodes.surface.end
+    word_appears number surface_nodes k w at at_w = (holds_in (HasSameSpan surface_nodes.surface) (f surface_nodes.surface) k w (are.whole number surface_nodes at).same_spans at_w).end
 
     module _ (backpointers : List Backpointer) (all : length backpointers ≡ length (node_words f by_surface)) where
       -- a node ends at the end of its group
-      pub node_bundle : (i : ℕ) (m : Node) → slice_get (nodes_of (node_words f by_surface) backpointers) i ≡ Some m → (number : ℕ) × (h : HasNode by_surface number i) × (m.word.end ≡ h.surface_nodes.surface.end)
-      node_bundle i m at =
+      pub node_group : (i : ℕ) (m : Node) → slice_get (nodes_of (node_words f by_surface) backpointers) i ≡ Some m → (number : ℕ) × (h : HasNode by_surface number i) × (m.word.end ≡ h.surface_nodes.surface.end)
+      node_group i m at =
           let p = node_parts (node_words f by_surface) backpointers i m at in
-          let r = bundle_of_any i (slice_get_within (node_words f by_surface) i p.word p.word_at) in
-          (r.0, r.1, ap (λ (n : Node). n.word.end) (sym p.is) ∙ bundle_end r.0 i p.word r.1 p.word_at)
+          let r = group_of_any i (slice_get_within (node_words f by_surface) i p.word p.word_at) in
+          (r.0, r.1, ap (λ (n : Node). n.word.end) (sym p.is) ∙ group_end r.0 i p.word r.1 p.word_at)
 
       -- a node by its number in the group
-      pub node_of_bundle : (number : ℕ) (surface_nodes : SurfaceNodes) (left : ℕ) (w : Word) (d : Backpointer) → slice_get by_surface number ≡ Some surface_nodes → left < surface_nodes.surface.count → slice_get (f surface_nodes.surface) (surface_nodes.surface.count - 1 - left) ≡ Some w
+      pub node_of_group : (number : ℕ) (surface_nodes : SurfaceNodes) (left : ℕ) (w : Word) (d : Backpointer) → slice_get by_surface number ≡ Some surface_nodes → left < surface_nodes.surface.count → slice_get (f surface_nodes.surface) (surface_nodes.surface.count - 1 - left) ≡ Some w
           → slice_get (nodes_of (node_words f by_surface) backpointers) (surface_nodes.from + left) ≡ Some (stored_node w (get_or backpointers (surface_nodes.from + left) d))
-      node_of_bundle number surface_nodes left w d at less at_w =
-          let here = bundle_word number surface_nodes left w at less at_w in
+      node_of_group number surface_nodes left w d at less at_w =
+          let here = group_word number surface_nodes left w at less at_w in
           let within = slice_get_within (node_words f by_surface) (surface_nodes.from + left) w here in
           node_here (node_words f by_surface) backpointers (surface_nodes.from + left) w (get_or backpointers (surface_nodes.from + left) d) here (slice_get-get_or backpointers (surface_nodes.from + left) d (omega (arith, within, all)))
 
       -- a group has a node, which ends at the end of the group
-      pub bundle_node : (number : ℕ) (surface_nodes : SurfaceNodes) → slice_get by_surface number ≡ Some surface_nodes → (m : Node) × (slice_get (nodes_of (node_words f by_surface) backpointers) surface_nodes.from ≡ Some m) × (m.word.end ≡ surface_nodes.surface.end)
-      bundle_node number surface_nodes at =
+      pub group_node : (number : ℕ) (surface_nodes : SurfaceNodes) → slice_get by_surface number ≡ Some surface_nodes → (m : Node) × (slice_get (nodes_of (node_words f by_surface) backpointers) surface_nodes.from ≡ Some m) × (m.word.end ≡ surface_nodes.surface.end)
+      group_node number surface_nodes at =
           let whole = are.whole number surface_nodes at in
           let count = whole.count_is in
           let some = whole.some in
@@ -269,5 +269,5 @@ module _ (f : Surface → List Word) where
           let at_w = slice_get-get_or (f surface_nodes.surface) k no_word (omega (arith, count, some)) in
           let same : surface_nodes.from + 0 ≡ surface_nodes.from = omega arith in
           let n = stored_node w (get_or backpointers (surface_nodes.from + 0) no_back) in
-          let here = node_of_bundle number surface_nodes 0 w no_back at some at_w in
-          (n, subst (λ (i : ℕ). slice_get (nodes_of (node_words f by_surface) backpointers) i ≡ Some n) same here, (holds_in (HasSameSpan surface_nodes.surface) (f surface_nodes.surface) k w whole.stand at_w).end)
+          let here = node_of_group number surface_nodes 0 w no_back at some at_w in
+          (n, subst (λ (i : ℕ). slice_get (nodes_of (node_words f by_surface) backpointers) i ≡ Some n) same here, (holds_in (HasSameSpan surface_nodes.surface) (f surface_nodes.surface) k w whole.same_spans at_w).end)

@@ -19,14 +19,14 @@ use Rattle.viterbi.specs.declared.rivals.rival.Rival.{Rival}
 use Rattle.viterbi.specs.declared.rivals.rival_path.RivalPath.{RivalPath}
 use Rattle.viterbi.specs.declared.rivals.step.PathStep.{PathStep}
 use Rattle.viterbi.proofs.BoundaryLemmas.{never_both}
-use Rattle.viterbi.proofs.JoinedLemmas.{chain_append, cost_front, cost_tail, off_append, split_at, steps_joined}
+use Rattle.viterbi.proofs.JoinedLemmas.{chain_append, cost_prefix, cost_tail, off_append, split_at, steps_joined}
 
 module _ (words : ℕ → List Word) (conn : ℕ → ℕ → ℤ) (len : ℕ) (best : List Word) (linked : NodesWithNeighbors) (are : AreWithNeighbors words conn len best linked) (w : Word) (has : Contains best w) (r : Rival) (rival : IsRivalOf words conn linked.nodes.items w r) where
   -- a word that replaces one of the best path's is not on that path
   rival_off : Contains best rival.node.word → ⊥
   rival_off there =
       let sp = split_at words len are.lattice.source best are.best_is.to w are.best_is.path.chain has in
-      let forward = are.lattice.source.go_on w.place w sp.is_predecessor.1 in
+      let forward = are.lattice.source.go_on w.place w sp.prefix_chain.1 in
       never_both words len are.lattice.source best are.best_is.to are.best_is.path w forward (w, has, (refl, refl)) (rival.node.word, there, rival.takes_place)
 
   module _ (p : RivalPath) (back on : List PathStep) (walked_back : IsWalkedBackward words conn best rival.node p.begins back) (walked_on : IsWalkedForward words conn best rival.node r.cost p.ends on) (cost_is : p.cost ≡ r.cost) (steps_are : p.steps.items ≡ reverse back ++ on) where
@@ -51,13 +51,13 @@ module _ (words : ℕ → List Word) (conn : ℕ → ℕ → ℤ) (len : ℕ) (b
     chain : IsChain words 0 (front ++ (middle ++ (words_of on ++ walked_on.back))) walked_on.to
     chain =
         chain_append words front (middle ++ (words_of on ++ walked_on.back)) 0 walked_back.place walked_on.to
-        (chain_forward words conn len are.lattice.source walked_back.front walked_back.place walked_back.is_predecessor)
-        (chain_append words middle (words_of on ++ walked_on.back) walked_back.place rival.node.word.end walked_on.to walked_back.is_successor walked_on.is_successor)
+        (chain_forward words conn len are.lattice.source walked_back.front walked_back.place walked_back.prefix_chain)
+        (chain_append words middle (words_of on ++ walked_on.back) walked_back.place rival.node.word.end walked_on.to walked_back.steps_chain walked_on.steps_chain)
 
     costs : path_cost conn (front ++ (middle ++ (words_of on ++ walked_on.back))) ≡ r.cost
     costs =
         let tail = words_of on ++ walked_on.back in
-        cost_front conn walked_back.front (middle ++ tail)
+        cost_prefix conn walked_back.front (middle ++ tail)
         ∙ cost_tail conn middle tail right total
         ∙ ap (λ (z : ℤ). z +ℤ cost_after conn (right_after right middle) tail) walked_back.total_is
         ∙ ap (λ (x : ℕ). rival.node.total +ℤ cost_after conn x tail) walked_back.right_is

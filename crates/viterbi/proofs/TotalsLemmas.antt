@@ -12,13 +12,13 @@ use Rattle.viterbi.specs.declared.rivals.total.Total.{Total}
 abbrev pub the_total : ℤ → Total
 the_total c = record { cost = c }
 
-pub rest_some : (total : ℤ) (through : Option ℤ) (rest : Total) → backward_cost_in total through ≡ Some rest → (cost : ℤ) × (through ≡ Some cost) × (rest.cost ≡ cost -ℤ total)
-rest_some total None rest is = absurd (none-some rest is)
-rest_some total (Some cost) rest is = (cost, refl, ap (λ (x : Total). x.cost) (same_Some rest (the_total (cost -ℤ total)) (sym is)))
+pub backward_some : (total : ℤ) (through : Option ℤ) (rest : Total) → backward_cost_in total through ≡ Some rest → (cost : ℤ) × (through ≡ Some cost) × (rest.cost ≡ cost -ℤ total)
+backward_some total None rest is = absurd (none-some rest is)
+backward_some total (Some cost) rest is = (cost, refl, ap (λ (x : Total). x.cost) (same_Some rest (the_total (cost -ℤ total)) (sym is)))
 
-pub rest_small : (n : LatticeNode) → IsSmallNode n → (rest : Total) → backward_cost_in n.total n.through ≡ Some rest → IsWithin (2 ^ 43) rest.cost
-rest_small n small rest is =
-    let p = rest_some n.total n.through rest is in
+pub backward_small : (n : LatticeNode) → IsSmallNode n → (rest : Total) → backward_cost_in n.total n.through ≡ Some rest → IsWithin (2 ^ 43) rest.cost
+backward_small n small rest is =
+    let p = backward_some n.total n.through rest is in
     let through = subst IsSmallIfSome p.1 small.through in
     let total = small.total in
     let e = p.2 in

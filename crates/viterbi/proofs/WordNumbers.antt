@@ -75,5 +75,5 @@ module _ (t : SearchedText) (place : ℕ) (ss : List Surface) (are : AreSurfaces
       let w = get_or (t.surface_words s) 0 no_word in
       let at = slice_get-get_or (t.surface_words s) 0 no_word (omega (arith, count, some)) in
       let low = source.are.within place w (Contains_from_get (t.words place) (words_before t ss number 0) w (word_at number 0 d w less at)) in
-      let same = (holds_in (HasSameSpan s) (t.surface_words s) 0 w whole.stand at).end in
+      let same = (holds_in (HasSameSpan s) (t.surface_words s) 0 w whole.same_spans at).end in
       omega (arith, low, same)

@@ -12,4 +12,4 @@ mod reachable_words;
 
 pub use lattice_node::LatticeNode;
 pub use nodes::lattice_nodes;
-pub use on_path::{first_at, mark_nodes_on_path};
+pub use on_path::{first_word_from, mark_nodes_on_path};

@@ -5,8 +5,8 @@ use Rattle.std.proofs.lemmas.Bool.{true≢false}
 use Rattle.std.proofs.lemmas.List.{length-take, length-append, take_at, take-take}
 
 -- earlier elements stay in place
-pub front_kept : {X : Type 0} (n m : ℕ) (before more all : List X) → n ≡ length before → take m all ≡ before ++ more → take n all ≡ before
-front_kept n m before more all is front =
+pub prefix_kept : {X : Type 0} (n m : ℕ) (before more all : List X) → n ≡ length before → take m all ≡ before ++ more → take n all ≡ before
+prefix_kept n m before more all is front =
     let long = ap length front in
     let a = length-take m all in
     let b = length-append before more in

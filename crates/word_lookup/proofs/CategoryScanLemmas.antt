@@ -10,20 +10,20 @@ use Rattle.mj_model.specs.Blanks.{chars_from}
 use Rattle.mj_model.specs.Run.{bytes_of, run}
 use Rattle.mj_model.specs.Words.{is_place}
 use Rattle.word_lookup.specs.declared.category_scan.CategoryScan.{CategoryScan}
-use Rattle.mj_model.proofs.CharBytes.{bytes_within, chars_behind, text_behind}
+use Rattle.mj_model.proofs.CharBytes.{bytes_within, chars_after, text_after}
 use Rattle.mj_model.proofs.PlaceWords.{place_there}
 use Rattle.word_lookup.specs.CategoryScans.{IsCategoryScan, IsFirst, count_between, following_in_run}
 use Rattle.word_lookup.proofs.PlaceLemmas.{blanks_fit, parted, text_there}
-use Rattle.word_lookup.proofs.RunLemmas.{bytes_before, bytes_behind, bytes_join, bytes_through, run_through}
+use Rattle.word_lookup.proofs.RunLemmas.{bytes_before, bytes_after, bytes_join, bytes_through, run_through}
 
 -- ---- its first character
 
-pub begun_run : (info : ℕ → CharInfo) (text rest : List ℕ) (start c n : ℕ) (entry : CharInfo) → IsTrue (is_place text start) → rest ≡ drop start text → IsFirst rest c (len_utf8 c) → n ≡ len_utf8 c → entry ≡ info c
+pub started_run : (info : ℕ → CharInfo) (text rest : List ℕ) (start c n : ℕ) (entry : CharInfo) → IsTrue (is_place text start) → rest ≡ drop start text → IsFirst rest c (len_utf8 c) → n ≡ len_utf8 c → entry ≡ info c
     → IsCategoryScan info text (record { from = start; to = start + n; following = 0; last = entry; is_whole = false })
-begun_run info text rest start c n entry there at first width is =
+started_run info text rest start c n entry there at first width is =
     let cs = chars (drop (len_utf8 c) rest) in
     let split : chars_from text start ≡ c ∷ cs = ap chars (sym at) ∙ first.split in
-    let one = ap (bytes_of 1) split ∙ bytes_behind 0 c cs in
+    let one = ap (bytes_of 1) split ∙ bytes_after 0 c cs in
     let suffix : cs ≡ chars_from text (start + n) =
     ap (λ (bytes : List ℕ). chars (drop (len_utf8 c) bytes)) at ∙ ap chars (drop-drop (len_utf8 c) start text) ∙ ap (λ (k : ℕ). chars_from text (start + k)) (sym width) in
     let on : following_in_run info (chars_from text start) ≡ run info entry (chars_from text (start + n)) =
@@ -37,9 +37,9 @@ begun_run info text rest start c n entry there at first width is =
 
 -- ---- the part after a position in it
 
-following_behind : (info : ℕ → CharInfo) (xs : List ℕ) (d : ℕ) (ds : List ℕ) (n r : ℕ) → following_in_run info (xs ++ d ∷ ds) ≡ n + r → length xs ≤ n → run info (info d) ds ≡ (n - length xs) + r
-following_behind info [] d ds n r is low = omega (arith, is)
-following_behind info (x ∷ xs) d ds n r is low = let through = run_through info (info x) xs d ds (omega (arith, is, low)) in omega (arith, through, is, low)
+following_after : (info : ℕ → CharInfo) (xs : List ℕ) (d : ℕ) (ds : List ℕ) (n r : ℕ) → following_in_run info (xs ++ d ∷ ds) ≡ n + r → length xs ≤ n → run info (info d) ds ≡ (n - length xs) + r
+following_after info [] d ds n r is low = omega (arith, is)
+following_after info (x ∷ xs) d ds n r is low = let through = run_through info (info x) xs d ds (omega (arith, is, low)) in omega (arith, through, is, low)
 
 -- a part contains the characters before a position in it
 count_within : (info : ℕ → CharInfo) (text : List ℕ) (r : CategoryScan) (place : ℕ) (xs cs : List ℕ) → IsCategoryScan info text r → chars_from text r.from ≡ xs ++ cs
@@ -74,7 +74,7 @@ rest_by info text r place xs (d ∷ ds) is split width low less here there =
     record {
       begins = there;
       ends = omega (arith, ends, bytes, same, width, low);
-      goes_on = ap (following_in_run info) here ∙ following_behind info xs d ds r.following (run info r.last (chars_from text r.to)) (ap (following_in_run info) (sym split) ∙ is.goes_on) few;
+      goes_on = ap (following_in_run info) here ∙ following_after info xs d ds r.following (run info r.last (chars_from text r.to)) (ap (following_in_run info) (sym split) ∙ is.goes_on) few;
       whole = is.whole;
     }
 
@@ -105,17 +105,17 @@ end_there info text r is =
     let low = blanks_fit text (drop r.from text) r.from m (bytes_of m (chars_from text r.from)) is.begins refl refl in
     let at : drop (bytes_of m (chars_from text r.from)) (drop r.from text) ≡ drop r.to text = drop-drop _ r.from text ∙ ap (λ (k : ℕ). drop k text) (sym is.ends) in
     let ends = is.ends in
-    place_there text r.to (omega (arith, ends, low)) (subst IsUtf8 at (text_behind (drop r.from text) m utf8))
+    place_there text r.to (omega (arith, ends, low)) (subst IsUtf8 at (text_after (drop r.from text) m utf8))
 
 chars_at_end : (info : ℕ → CharInfo) (text : List ℕ) (r : CategoryScan) → IsCategoryScan info text r → chars_from text r.to ≡ drop (1 + r.following) (chars_from text r.from)
 chars_at_end info text r is =
     let m = 1 + r.following in
-    ap (λ (k : ℕ). chars_from text k) is.ends ∙ ap chars (sym (drop-drop _ r.from text)) ∙ chars_behind (drop r.from text) m (text_there text r.from is.begins)
+    ap (λ (k : ℕ). chars_from text k) is.ends ∙ ap chars (sym (drop-drop _ r.from text)) ∙ chars_after (drop r.from text) m (text_there text r.from is.begins)
 
 -- a part ends at the end of its first character or later
-pub ends_behind : (info : ℕ → CharInfo) (text : List ℕ) (begun r : CategoryScan) → IsCategoryScan info text begun → IsCategoryScan info text r → r.from ≡ begun.from → begun.following ≡ 0 → begun.to ≤ r.to
-ends_behind info text begun r first is from one =
-    let cs = chars_from text begun.from in
+pub ends_after : (info : ℕ → CharInfo) (text : List ℕ) (growth_started r : CategoryScan) → IsCategoryScan info text growth_started → IsCategoryScan info text r → r.from ≡ growth_started.from → growth_started.following ≡ 0 → growth_started.to ≤ r.to
+ends_after info text growth_started r first is from one =
+    let cs = chars_from text growth_started.from in
     let same = ap (λ (k : ℕ). bytes_of (1 + r.following) (chars_from text k)) from in
     let few = ap (λ (k : ℕ). bytes_of (1 + k) cs) one in
     let join = bytes_join (1 + 0) r.following cs in
@@ -140,7 +140,7 @@ further_run info text rest r left n bytes last whole is at count width on whole_
     let all = ap (λ (k : ℕ). bytes_of k cs) long in
     let ends = is.ends in
     let suffix : drop n (chars rest) ≡ chars_from text (r.to + bytes) =
-    ap (drop n) here ∙ sym (chars_behind (drop r.to text) n (text_there text r.to there)) ∙ ap chars (drop-drop _ r.to text) ∙ ap (λ (k : ℕ). chars_from text (r.to + k)) (sym w) in
+    ap (drop n) here ∙ sym (chars_after (drop r.to text) n (text_there text r.to there)) ∙ ap chars (drop-drop _ r.to text) ∙ ap (λ (k : ℕ). chars_from text (r.to + k)) (sym w) in
     let from_here : run info r.last (chars_from text r.to) ≡ n + run info last (chars_from text (r.to + bytes)) =
     ap (run info r.last) (sym here) ∙ on ∙ ap (λ (ds : List ℕ). n + run info last ds) suffix in
     let goes_on = is.goes_on in
@@ -155,11 +155,11 @@ further_run info text rest r left n bytes last whole is at count width on whole_
 -- ---- what a part implies
 
 -- the bytes of the characters that follow, as far as the part was scanned
-pub bytes_told : (info : ℕ → CharInfo) (text rest : List ℕ) (r : CategoryScan) (start c n : ℕ) → IsCategoryScan info text r → r.from ≡ start → rest ≡ drop start text → IsFirst rest c n
+pub bytes_reported : (info : ℕ → CharInfo) (text rest : List ℕ) (r : CategoryScan) (start c n : ℕ) → IsCategoryScan info text r → r.from ≡ start → rest ≡ drop start text → IsFirst rest c n
     → r.to ≡ start + n + bytes_of r.following (chars (drop n rest))
-bytes_told info text rest r start c n is from at first =
+bytes_reported info text rest r start c n is from at first =
     let split : chars_from text r.from ≡ c ∷ chars (drop n rest) = ap (λ (k : ℕ). chars_from text k) from ∙ ap chars (sym at) ∙ first.split in
-    let width = ap (bytes_of (1 + r.following)) split ∙ bytes_behind r.following c (chars (drop n rest)) in
+    let width = ap (bytes_of (1 + r.following)) split ∙ bytes_after r.following c (chars (drop n rest)) in
     let ends = is.ends in
     let one = first.bytes in
     omega (arith, ends, from, width, one)

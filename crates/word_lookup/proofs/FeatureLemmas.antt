@@ -35,10 +35,10 @@ no_lexicon view (u ∷ users) (suc i) high = no_lexicon view users i (omega (ari
 abbrev pub tokens_of : List Lexeme → List Token
 tokens_of lexicon = map (λ (e : Lexeme). e.token) lexicon
 
-pub lexicon_behind : (view : List ℕ → Tables) (system : Tables) (users : List (List ℕ)) (number : ℕ) (found : List Lexeme) → (number ≡ 0 → ⊥) → found ≡ slice_index_or (lexicons_of (map view users)) (number - 1) []
+pub lexicon_after : (view : List ℕ → Tables) (system : Tables) (users : List (List ℕ)) (number : ℕ) (found : List Lexeme) → (number ≡ 0 → ⊥) → found ≡ slice_index_or (lexicons_of (map view users)) (number - 1) []
     → found ≡ slice_index_or (lexicons_of (system ∷ map view users)) number []
-lexicon_behind view system users zero found some is = absurd (some refl)
-lexicon_behind view system users (suc i) found some is =
+lexicon_after view system users zero found some is = absurd (some refl)
+lexicon_after view system users (suc i) found some is =
     let e : suc i - 1 ≡ i = omega arith in
     is ∙ ap (λ (k : ℕ). slice_index_or (lexicons_of (map view users)) k []) e
 

@@ -13,7 +13,7 @@ use Rattle.mj_model.specs.Run.{run, bytes_of}
 use Rattle.mj_model.specs.Tables.{Overlay, Token}
 use Rattle.mj_model.specs.UnknownSpans.{spans}
 use Rattle.mj_model.specs.Words.{is_place, is_empty, unknown, words}
-use Rattle.mj_model.proofs.CharBytes.{run_within, chars_within, text_behind, text_behind_blanks}
+use Rattle.mj_model.proofs.CharBytes.{run_within, chars_within, text_after, text_after_blanks}
 use Rattle.mj_model.proofs.PlaceWords.{place_there}
 use Rattle.word_lookup.specs.CategoryScans.{IsFirst}
 use Rattle.word_lookup.specs.UnknownEntries.{words_of_spans}
@@ -90,9 +90,9 @@ blanks_are o text rest p entry n bytes h e s is b =
     ap (λ (k : ℕ). p + k) (b ∙ ap (λ (k : ℕ). bytes_of k (chars rest)) whole ∙ ap (λ (t : List ℕ). bytes_of r (chars t)) e)
 
 -- what follows the blanks of a position
-pub place_behind_blanks : (o : Overlay) (text : List ℕ) (p start : ℕ) → IsTrue (is_place text p) → start ≡ skip o text p → start ≤ length text → IsTrue (is_place text start)
-place_behind_blanks o text p start h e low =
-    place_there text start low (subst (λ (k : ℕ). IsUtf8 (drop k text)) (sym e) (text_behind_blanks o text p (text_there text p h)))
+pub place_after_blanks : (o : Overlay) (text : List ℕ) (p start : ℕ) → IsTrue (is_place text p) → start ≡ skip o text p → start ≤ length text → IsTrue (is_place text start)
+place_after_blanks o text p start h e low =
+    place_there text start low (subst (λ (k : ℕ). IsUtf8 (drop k text)) (sym e) (text_after_blanks o text p (text_there text p h)))
 
 -- ---- the words
 
@@ -126,7 +126,7 @@ first_taken text bytes rest c n u e h is =
     let bytes_are : bytes_of 1 (chars text) ≡ n =
     ap (bytes_of 1) split ∙ length-append (encode_utf8 c) [] ∙ omega (arith, one, is) in
     record {
-      place = place_there text n low (subst (λ (k : ℕ). IsUtf8 (drop k text)) bytes_are (text_behind text 1 u));
+      place = place_there text n low (subst (λ (k : ℕ). IsUtf8 (drop k text)) bytes_are (text_after text 1 u));
       split = split ∙ ap (λ (xs : List ℕ). c ∷ chars xs) (sym suffix);
       long = (let d = length-drop n text in omega (arith, d, low));
       bytes = is;

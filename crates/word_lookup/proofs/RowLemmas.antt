@@ -24,16 +24,16 @@ abbrev pub StandsAtNumber : List Token → Token → Type 0
 StandsAtNumber all e = slice_get all e.number ≡ Some e
 
 pub row_is : (all es : List Token) (first count : ℕ) → map (λ (t : Token). t.number) es ≡ range_with_len first count → AllByRecursion (StandsAtNumber all) es → take count (drop first all) ≡ es
-row_is all [] first zero numbers stand = refl
-row_is all [] first (suc n) numbers stand = absurd (let long = ap length numbers in omega (arith, long))
-row_is all (t ∷ ts) first zero numbers stand = absurd (let long = ap length numbers in omega (arith, long))
-row_is all (t ∷ ts) first (suc n) numbers stand =
+row_is all [] first zero numbers appear = refl
+row_is all [] first (suc n) numbers appear = absurd (let long = ap length numbers in omega (arith, long))
+row_is all (t ∷ ts) first zero numbers appear = absurd (let long = ap length numbers in omega (arith, long))
+row_is all (t ∷ ts) first (suc n) numbers appear =
     let number : t.number ≡ first = ap (λ (ns : List ℕ). get_or ns 0 0) numbers in
     let rest : map (λ (t : Token). t.number) ts ≡ range_with_len (first + 1) n = ap (λ (ns : List ℕ). drop 1 ns) numbers in
-    let at : slice_get all first ≡ Some t = ap (slice_get all) (sym number) ∙ stand.0 in
+    let at : slice_get all first ≡ Some t = ap (slice_get all) (sym number) ∙ appear.0 in
     let here = get_or_from_slice_get all first t t at in
     ap (take (suc n)) (drop_more all first t (slice_get_within all first t at) ∙ ap (λ (u : Token). u ∷ drop (first + 1) all) here)
-    ∙ ap (λ (us : List Token). t ∷ us) (row_is all ts (first + 1) n rest stand.1)
+    ∙ ap (λ (us : List Token). t ∷ us) (row_is all ts (first + 1) n rest appear.1)
 
 -- ---- entries of a dictionary
 
@@ -42,8 +42,8 @@ place_in [] x h = absurd h
 place_in (y ∷ ys) x (inl e) = (0, ap Some e)
 place_in (y ∷ ys) x (inr h) = let r = place_in ys x h in (suc r.0, r.1)
 
-stand_at_numbers : (all part : List Token) → ((i : ℕ) (e : Token) → slice_get all i ≡ Some e → e.number ≡ i) → ((e : Token) → IsMember part e → IsMember all e) → AllByRecursion (StandsAtNumber all) part
-stand_at_numbers all part numbered within = each_holds (StandsAtNumber all) part (λ e h.
+appear_at_numbers : (all part : List Token) → ((i : ℕ) (e : Token) → slice_get all i ≡ Some e → e.number ≡ i) → ((e : Token) → IsMember part e → IsMember all e) → AllByRecursion (StandsAtNumber all) part
+appear_at_numbers all part numbered within = each_holds (StandsAtNumber all) part (λ e h.
     let at = place_in all e (within e h) in
     ap (slice_get all) (numbered at.0 e at.1) ∙ at.1)
 
@@ -51,9 +51,9 @@ abbrev token_of : Lexeme → Token
 token_of e = e.token
 
 -- the entries of a surface
-pub known_stand : (t : Tables) (key : List ℕ) → AreFitting t → AllByRecursion (StandsAtNumber (numbered_tokens t)) (entries_under key t.lexicon)
-known_stand t key fits =
-    let has = λ (e : Lexeme). bytes_eq e.surface key in stand_at_numbers (numbered_tokens t) (entries_under key t.lexicon) fits.numbered (λ e h.
+pub known_appear : (t : Tables) (key : List ℕ) → AreFitting t → AllByRecursion (StandsAtNumber (numbered_tokens t)) (entries_under key t.lexicon)
+known_appear t key fits =
+    let has = λ (e : Lexeme). bytes_eq e.surface key in appear_at_numbers (numbered_tokens t) (entries_under key t.lexicon) fits.numbered (λ e h.
     let l = in_map token_of (filter has t.lexicon) e h in
     let there : IsMember (map token_of t.lexicon) e = subst (IsMember (map token_of t.lexicon)) l.2 (map_in token_of t.lexicon l.0 (in_filter has t.lexicon l.0 l.1).0) in
     append_in (map token_of t.lexicon) (unknown_tokens t) e (inl there))
@@ -66,11 +66,11 @@ up_to_in (suc n) i less = elim (cases_lt i n) [
 ]
 
 -- the entries of a category
-pub unknown_stand : (t : Tables) (i : ℕ) → AreFitting t → i < length t.categories → AllByRecursion (StandsAtNumber (numbered_tokens t)) (t.unknown i)
-unknown_stand t i fits less =
+pub unknown_appear : (t : Tables) (i : ℕ) → AreFitting t → i < length t.categories → AllByRecursion (StandsAtNumber (numbered_tokens t)) (t.unknown i)
+unknown_appear t i fits less =
     let f = λ (n : ℕ). t.unknown (n - 1) in
     let one : suc i - 1 ≡ i = omega arith in
-    stand_at_numbers (numbered_tokens t) (t.unknown i) fits.numbered (λ e h.
+    appear_at_numbers (numbered_tokens t) (t.unknown i) fits.numbered (λ e h.
     let here : IsMember (f (suc i)) e = subst (λ (k : ℕ). IsMember (t.unknown k) e) (sym one) h in
     append_in (map token_of t.lexicon) (unknown_tokens t) e (inr (flat_map_in f (up_to (length t.categories)) (suc i) e (up_to_in (length t.categories) i less) here)))
 
@@ -80,7 +80,7 @@ unknown_stand t i fits less =
 pub record IsPrefix (n : ℕ) (all : List Token) (prefix : ℕ × List Token) : Type 0 where
   pub within : prefix.0 ≤ n
   pub some : 0 < length prefix.1
-  pub stand : AllByRecursion (StandsAtNumber all) prefix.1
+  pub appear : AllByRecursion (StandsAtNumber all) prefix.1
 
 pub prefixes_are : (text : List ℕ) (t : Tables) → AreFitting t → AllByRecursion (IsPrefix (length text) (numbered_tokens t)) (prefixes_in text t.lexicon)
 prefixes_are text t fits = each_holds (IsPrefix (length text) (numbered_tokens t)) (prefixes_in text t.lexicon) (λ prefix h.
@@ -91,7 +91,7 @@ prefixes_are text t fits = each_holds (IsPrefix (length text) (numbered_tokens t
     record {
       within = omega (arith, low, same);
       some = ltb-true 0 (length prefix.1) f.1;
-      stand = subst (λ (p : ℕ × List Token). AllByRecursion (StandsAtNumber (numbered_tokens t)) p.1) m.2 (known_stand t (take m.0 text) fits);
+      appear = subst (λ (p : ℕ × List Token). AllByRecursion (StandsAtNumber (numbered_tokens t)) p.1) m.2 (known_appear t (take m.0 text) fits);
     })
 
 -- ---- one entry of a row

@@ -9,7 +9,7 @@ use Rattle.mj_model.specs.declared.category.CharInfo.{CharInfo}
 use Rattle.mj_model.specs.Categories.{shares}
 use Rattle.mj_model.specs.Run.{run, bytes_of}
 use Rattle.word_lookup.proofs.PlaceLemmas.{no_chars}
-use Rattle.mj_model.proofs.CharBytes.{bytes_within, chars_behind, chars_within, text_behind}
+use Rattle.mj_model.proofs.CharBytes.{bytes_within, chars_after, chars_within, text_after}
 
 -- ---- bytes
 
@@ -25,8 +25,8 @@ one_more_byte cs k c less at =
     omega (arith, e, f, g, h, i, j)
 
 -- the bytes of one character before others
-pub bytes_behind : (n c : ℕ) (cs : List ℕ) → bytes_of (1 + n) (c ∷ cs) ≡ len_utf8 c + bytes_of n cs
-bytes_behind n c cs =
+pub bytes_after : (n c : ℕ) (cs : List ℕ) → bytes_of (1 + n) (c ∷ cs) ≡ len_utf8 c + bytes_of n cs
+bytes_after n c cs =
     let e : 1 + n ≡ suc n = omega arith in
     ap (λ (k : ℕ). bytes_of k (c ∷ cs)) e ∙ length-append (encode_utf8 c) (encode_utf8_all (take n cs)) ∙ ap (λ (k : ℕ). k + bytes_of n cs) (length-encode c)
 
@@ -49,8 +49,8 @@ bytes_join (suc m) n [] = let a = bytes_within (suc m + n) [] in let b = bytes_w
 bytes_join (suc m) n (c ∷ cs) =
     let e : suc m + n ≡ 1 + (m + n) = omega arith in
     let f : suc m ≡ 1 + m = omega arith in
-    let a = ap (λ (k : ℕ). bytes_of k (c ∷ cs)) e ∙ bytes_behind (m + n) c cs in
-    let b = ap (λ (k : ℕ). bytes_of k (c ∷ cs)) f ∙ bytes_behind m c cs in
+    let a = ap (λ (k : ℕ). bytes_of k (c ∷ cs)) e ∙ bytes_after (m + n) c cs in
+    let b = ap (λ (k : ℕ). bytes_of k (c ∷ cs)) f ∙ bytes_after m c cs in
     let h = bytes_join m n cs in
     omega (arith, a, b, h)
 
@@ -82,14 +82,14 @@ pub record IsLeft (text left : List ℕ) (n : ℕ) : Type 0 where
   pub bytes : length text - length left ≡ bytes_of n (chars text)
   pub fits : length left ≤ length text
 
-pub left_behind : (text left : List ℕ) (n : ℕ) → IsUtf8 text → left ≡ drop (bytes_of n (chars text)) text → IsLeft text left n
-left_behind text left n u at =
+pub left_after : (text left : List ℕ) (n : ℕ) → IsUtf8 text → left ≡ drop (bytes_of n (chars text)) text → IsLeft text left n
+left_after text left n u at =
     let within = chars_within text n u in
     let short = length-drop (bytes_of n (chars text)) text in
     let long = ap length at in
     record {
-      utf8 = subst IsUtf8 (sym at) (text_behind text n u);
-      chars_are = sym (ap chars at ∙ chars_behind text n u);
+      utf8 = subst IsUtf8 (sym at) (text_after text n u);
+      chars_are = sym (ap chars at ∙ chars_after text n u);
       bytes = omega (arith, within, short, long);
       fits = omega (arith, within, short, long);
     }
@@ -102,16 +102,16 @@ pub record IsTaken (text rest : List ℕ) (n c : ℕ) : Type 0 where
 pub taken : (text left rest : List ℕ) (n c : ℕ) → IsUtf8 text → left ≡ drop (bytes_of n (chars text)) text → left ≡ encode_utf8 c ++ rest → IsTaken text rest n c
 taken text left rest n c u at spelled =
     let cs = chars text in
-    let before = left_behind text left n u at in
+    let before = left_after text left n u at in
     let one = length-encode c in
     let suffix : drop (len_utf8 c) left ≡ rest = ap (drop (len_utf8 c)) spelled ∙ drop_at (encode_utf8 c) rest (len_utf8 c) (omega (arith, one)) in
     let split : drop n cs ≡ c ∷ chars rest = before.chars_are ∙ chars_past_char left rest c before.utf8 spelled in
     let join = bytes_join n 1 cs in
-    let width = ap (bytes_of 1) split ∙ bytes_behind 0 c (chars rest) in
+    let width = ap (bytes_of 1) split ∙ bytes_after 0 c (chars rest) in
     let bytes : bytes_of n cs + len_utf8 c ≡ bytes_of (n + 1) cs = omega (arith, join, width) in
     let backward_cost_at : rest ≡ drop (bytes_of (n + 1) cs) text =
     sym suffix ∙ ap (drop (len_utf8 c)) at ∙ drop-drop (len_utf8 c) (bytes_of n cs) text ∙ ap (λ (k : ℕ). drop k text) bytes in
-    record { chars_are = split ∙ ap (λ (ds : List ℕ). c ∷ ds) (ap chars backward_cost_at ∙ chars_behind text (n + 1) u); at = backward_cost_at }
+    record { chars_are = split ∙ ap (λ (ds : List ℕ). c ∷ ds) (ap chars backward_cost_at ∙ chars_after text (n + 1) u); at = backward_cost_at }
 
 run_on_by : (n : ℕ) (b shared : Bool) → b ≡ shared → cond b (suc n) 0 ≡ cond shared (suc n) 0
 run_on_by n b shared e = ap (λ t. cond t (suc n) 0) e
@@ -136,5 +136,5 @@ stop info entry last next cs ds n c split so_far is off =
 pub end : (info : ℕ → CharInfo) (entry last : CharInfo) (text left : List ℕ) (n : ℕ) → IsUtf8 text → left ≡ drop (bytes_of n (chars text)) text → length left ≡ 0 → n + run info last (drop n (chars text)) ≡ run info entry (chars text)
     → n ≡ run info entry (chars text)
 end info entry last text left n u at empty so_far =
-    let e = ap (run info last) ((left_behind text left n u at).chars_are ∙ no_chars left left (left_behind text left n u at).utf8 refl empty) in
+    let e = ap (run info last) ((left_after text left n u at).chars_are ∙ no_chars left left (left_after text left n u at).utf8 refl empty) in
     omega (arith, so_far, e)

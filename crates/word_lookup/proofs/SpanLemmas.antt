@@ -20,7 +20,7 @@ use Rattle.mj_model.specs.UnknownSpans.{grouped_span, length_spans, one_if_none,
 use Rattle.word_lookup.specs.declared.run.Run.{Run}
 use Rattle.word_lookup.specs.declared.spans.Spans.{Spans}
 use Rattle.word_lookup.specs.Spans.{grouped_spans, lookahead, spans_in, HasBytes}
-use Rattle.word_lookup.proofs.RunLemmas.{bytes_behind}
+use Rattle.word_lookup.proofs.RunLemmas.{bytes_after}
 
 -- ---- lengths
 
@@ -166,7 +166,7 @@ grouped_found_by true n bytes = refl
 grouped_found_by false n bytes = refl
 
 has_bytes_by : (b : Bool) (first : ℕ) (cs : List ℕ) (n bytes : ℕ) → (b ≡ true → bytes ≡ bytes_of n cs) → IfSome (cond b (Some (record { characters = 1 + n; bytes = len_utf8 first + bytes })) None) (HasBytes (first ∷ cs))
-has_bytes_by true first cs n bytes h = let e = bytes_behind n first cs in let f = h refl in omega (arith, e, f)
+has_bytes_by true first cs n bytes h = let e = bytes_after n first cs in let f = h refl in omega (arith, e, f)
 has_bytes_by false first cs n bytes h = tt
 
 pub has_bytes : (b : Bool) (first : ℕ) (cs : List ℕ) (n bytes : ℕ) (grouped found : Option Run) → found ≡ grouped → grouped ≡ cond b (Some (record { characters = 1 + n; bytes = len_utf8 first + bytes })) None

@@ -19,7 +19,7 @@ use Rattle.word_lookup.specs.EntryWords.{entry_word}
 use Rattle.mj_model.specs.Surfaces.{AreSurfacesOf, IsWhole, IsWordOf, HasSameSpan}
 use Rattle.word_lookup.specs.Surfaces.{GrowsByWords, surface_words, tokens_of}
 use Rattle.word_lookup.specs.SurfacesHere.{surface_here}
-use Rattle.word_lookup.proofs.AppendLemmas.{front_kept}
+use Rattle.word_lookup.proofs.AppendLemmas.{prefix_kept}
 use Rattle.word_lookup.proofs.RowLemmas.{StandsAtNumber, row_is, row_within}
 
 pub none_grown : (o : Overlay) (xs : List Surface) → GrowsByWords o [] xs xs
@@ -42,8 +42,8 @@ pub record HaveGrown (o : Overlay) (before now : List Surface) (all left : List 
   pub grown : GrowsByWords o done before now
   pub whole : done ++ left ≡ all
 
-pub begun : (o : Overlay) (before : List Surface) (all left : List Word) → left ≡ all → HaveGrown o before before all left
-begun o before all left e = record { done = []; grown = none_grown o before; whole = e }
+pub growth_started : (o : Overlay) (before : List Surface) (all left : List Word) → left ≡ all → HaveGrown o before before all left
+growth_started o before all left e = record { done = []; grown = none_grown o before; whole = e }
 
 pub more_grown : (o : Overlay) (before now after : List Surface) (all left these rest : List Word) → HaveGrown o before now all left → left ≡ these ++ rest → GrowsByWords o these now after → HaveGrown o before after all rest
 more_grown o before now after all left these rest have e more = record {
@@ -58,7 +58,7 @@ all_grown o before now all left have e =
 
 -- earlier elements stay in place
 pub grown_kept : (o : Overlay) (n m : ℕ) (before now after : List Surface) (words : List Word) → GrowsByWords o words before now → n ≡ length before → take m after ≡ now → take n after ≡ before
-grown_kept o n m before now after words more is kept = front_kept n m before more.0 after is (kept ∙ more.2)
+grown_kept o n m before now after words more is kept = prefix_kept n m before more.0 after is (kept ∙ more.2)
 
 pub have_kept : (o : Overlay) (n m : ℕ) (before now after : List Surface) (all left : List Word) → HaveGrown o before now all left → n ≡ length before → take m after ≡ now → take n after ≡ before
 have_kept o n m before now after all left have is kept = grown_kept o n m before now after have.done have.grown is kept
@@ -88,22 +88,22 @@ dropped_at (u ∷ ts) (suc n) i (suc k) t is at = dropped_at ts n i k t (omega (
 token_at : (ts : List Token) (first count i : ℕ) (t : Token) → slice_get (take count (drop first ts)) i ≡ Some t → slice_get ts (first + i) ≡ Some t
 token_at ts first count i t at = dropped_at ts first i (first + i) t refl (taken_at (drop first ts) count i t at)
 
-all_stand : (s : Surface) (es : List Token) → AllByRecursion (HasSameSpan s) (map (entry_word s.list s.place s.start s.end) es)
-all_stand s [] = tt
-all_stand s (e ∷ es) = (record { place = refl; start = refl; end = refl }, all_stand s es)
+all_appear : (s : Surface) (es : List Token) → AllByRecursion (HasSameSpan s) (map (entry_word s.list s.place s.start s.end) es)
+all_appear s [] = tt
+all_appear s (e ∷ es) = (record { place = refl; start = refl; end = refl }, all_appear s es)
 
 pub one_surface : (o : Overlay) (s : Surface) (es : List Token) (before : List Surface) (words : List Word) → map (λ (t : Token). t.number) es ≡ range_with_len s.first s.count
     → AllByRecursion (StandsAtNumber (tokens_of o s.list)) es → 0 < length es → map (entry_word s.list s.place s.start s.end) es ≡ words → GrowsByWords o words before (before ++ s ∷ [])
-one_surface o s es before words numbers stand some are =
+one_surface o s es before words numbers appear some are =
     let f = entry_word s.list s.place s.start s.end in
-    let same : surface_words o s ≡ map f es = ap (map f) (row_is (tokens_of o s.list) es s.first s.count numbers stand) in
+    let same : surface_words o s ≡ map f es = ap (map f) (row_is (tokens_of o s.list) es s.first s.count numbers appear) in
     let long = ap length numbers in
     let a = length-map es (λ (t : Token). t.number) in
     let b = length-range_with_len s.first s.count in
     let c = length-map es f in
     let d = ap length same in
     let whole : IsWhole (surface_words o) s =
-    record { count_is = omega (arith, long, a, b, c, d); some = omega (arith, long, a, b, some); stand = subst (AllByRecursion (HasSameSpan s)) (sym same) (all_stand s es) } in
+    record { count_is = omega (arith, long, a, b, c, d); some = omega (arith, long, a, b, some); same_spans = subst (AllByRecursion (HasSameSpan s)) (sym same) (all_appear s es) } in
     (s ∷ [], record { joined = append-nil (surface_words o s) ∙ same ∙ are; whole = (whole, tt) }, refl)
 
 -- the word of one entry of a surface is a surface of its own
@@ -120,7 +120,7 @@ one_word o s one i is whole less =
       whole = record {
         count_is = ap (λ (us : List Token). length (map f us)) single;
         some = omega arith;
-        stand = all_stand (record s { first = s.first + i; count = 1 }) (take 1 (drop (s.first + i) ts));
+        same_spans = all_appear (record s { first = s.first + i; count = 1 }) (take 1 (drop (s.first + i) ts));
       };
       word = λ w at.
           let m = token_of_word f (take s.count (drop s.first ts)) i w at in
@@ -131,16 +131,16 @@ one_word o s one i is whole less =
 -- the surface of a row that was appended
 pub surface_appended : (o : Overlay) (at : WordStart) (list : EntryList) (row : EntryRange) (end : ℕ) (s : Surface) (es : List Token) (before after : List Surface) (words : List Word) → s ≡ surface_here at list row end → after ≡ before ++ s ∷ []
     → map (λ (t : Token). t.number) es ≡ range_with_len row.first row.count → AllByRecursion (StandsAtNumber (tokens_of o list)) es → 0 < length es → map (entry_word list at.place at.start end) es ≡ words → GrowsByWords o words before after
-surface_appended o at list row end s es before after words is now numbers stand some are =
-    subst (GrowsByWords o words before) (sym (now ∙ ap (λ (t : Surface). before ++ t ∷ []) is)) (one_surface o (surface_here at list row end) es before words numbers stand some are)
+surface_appended o at list row end s es before after words is now numbers appear some are =
+    subst (GrowsByWords o words before) (sym (now ∙ ap (λ (t : Surface). before ++ t ∷ []) is)) (one_surface o (surface_here at list row end) es before words numbers appear some are)
 
 -- ---- earlier elements
 
-pub have_front : (o : Overlay) (n : ℕ) (before now after : List Surface) (all left : List Word) → HaveGrown o before now all left → n ≡ length before → after ≡ now → take n after ≡ before
-have_front o n before now after all left have is same = ap (take n) (same ∙ have.grown.2) ∙ take_at before have.grown.0 n (sym is)
+pub have_prefix : (o : Overlay) (n : ℕ) (before now after : List Surface) (all left : List Word) → HaveGrown o before now all left → n ≡ length before → after ≡ now → take n after ≡ before
+have_prefix o n before now after all left have is same = ap (take n) (same ∙ have.grown.2) ∙ take_at before have.grown.0 n (sym is)
 
-pub grown_front : (o : Overlay) (n : ℕ) (before now after : List Surface) (words : List Word) → GrowsByWords o words before now → n ≡ length before → after ≡ now → take n after ≡ before
-grown_front o n before now after words grown is same = ap (take n) (same ∙ grown.2) ∙ take_at before grown.0 n (sym is)
+pub grown_prefix : (o : Overlay) (n : ℕ) (before now after : List Surface) (words : List Word) → GrowsByWords o words before now → n ≡ length before → after ≡ now → take n after ≡ before
+grown_prefix o n before now after words grown is same = ap (take n) (same ∙ grown.2) ∙ take_at before grown.0 n (sym is)
 
 -- ---- known, then unknown
 

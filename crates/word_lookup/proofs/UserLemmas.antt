@@ -62,9 +62,9 @@ one_user_more sizes view users i user less at is have =
           ∙ ap (λ (k : ℕ). first_user_fault sizes k (map view (drop (i + 1) users))) (sym (add-one i));
     }
 
-pub user_told : (sizes : MatrixSizes) (view : List ℕ → Tables) (users : List (List ℕ)) (i : ℕ) (user : List ℕ) (fault : OverlayFault) → i < length users → user ≡ get_or users i user → HavePassed sizes view users i
+pub user_reported : (sizes : MatrixSizes) (view : List ℕ → Tables) (users : List (List ℕ)) (i : ℕ) (user : List ℕ) (fault : OverlayFault) → i < length users → user ≡ get_or users i user → HavePassed sizes view users i
     → ((others : List Tables) → first_user_fault sizes i (view user ∷ others) ≡ Some fault) → first_user_fault sizes 0 (map view users) ≡ Some fault
-user_told sizes view users i user fault less at have reported =
+user_reported sizes view users i user fault less at have reported =
     have.rest ∙ ap (λ (us : List (List ℕ)). first_user_fault sizes i (map view us)) (drop_more users i user less ∙ ap (λ (u : List ℕ). u ∷ drop (i + 1) users) (sym at))
     ∙ reported (map view (drop (i + 1) users))
 

@@ -14,7 +14,7 @@ following_in_run info [] = 0
 following_in_run info (c ∷ cs) = run info (info c) cs
 
 -- a scanned part of the run at a position: `following` characters after the first one, with the
--- categories of the last one, from which the run goes on. If it is whole, the run doesn't go on
+-- categories of the last one, from which the run continues. If it is whole, the run ends there
 pub record IsCategoryScan (info : ℕ → CharInfo) (text : List ℕ) (r : CategoryScan) : Type 0 where
   pub begins : IsTrue (is_place text r.from)
   pub ends : r.to ≡ r.from + bytes_of (1 + r.following) (chars_from text r.from)

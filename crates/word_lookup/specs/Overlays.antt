@@ -16,7 +16,7 @@ overlay_of d = record { system = image_tables d.system.now; users = map image_ta
 abbrev pub overlay_by_default : List ℕ → List (List ℕ) → Overlay
 overlay_by_default system users = record { system = image_tables system; users = map image_tables users; grouping = GROUPING_DEFAULT }
 
--- the first error of such an overlay
+-- the first error of an overlay of the images of a system dictionary and user dictionaries
 abbrev pub fault_of_images : List ℕ → List (List ℕ) → Option OverlayFault
 fault_of_images system users = overlay_fault (image_tables system) (map image_tables users)
 

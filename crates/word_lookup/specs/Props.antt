@@ -13,6 +13,7 @@ AreDistinct-prop : {X : Type 0} (xs : List X) → IsProp (AreDistinct xs)
 AreDistinct-prop [] = Unit-prop
 AreDistinct-prop (x ∷ xs) = ×_prop (not_in xs x) (AreDistinct-prop xs)
 
+-- `IsOverlay` has at most one proof
 pub IsOverlay-prop : (system : Tables) (users : List Tables) → IsProp (IsOverlay system users)
 unfolding IsOverlay
 IsOverlay-prop system users = Prim.hlevel (props, AreDistinct-prop)

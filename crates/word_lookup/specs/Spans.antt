@@ -6,6 +6,7 @@ use Rattle.mj_model.specs.Run.{bytes_of}
 use Rattle.word_lookup.specs.declared.run.Run.{Run}
 use Rattle.word_lookup.specs.declared.spans.Spans.{Spans}
 
+-- the grouped span in characters, if there is one
 abbrev pub grouped_spans : Option Run → List ℕ
 grouped_spans None = []
 grouped_spans (Some run) = run.characters ∷ []
@@ -28,8 +29,8 @@ grouped_with category grouping first run =
     then Some (record { characters = 1 + run.characters; bytes = first + run.bytes })
     else None
 
--- the longest span that is not grouped, if `following` characters follow in the run and `alike`
--- share a category with the first one
+-- the longest span that is not grouped, if `following` characters follow the first one in its run
+-- and `alike` characters, itself included, share a category with it
 abbrev pub longest_of : Category → ℕ → ℕ → ℕ
 longest_of category following alike =
     if category.group then min (min category.length alike) following else min category.length alike

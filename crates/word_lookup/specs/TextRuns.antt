@@ -31,5 +31,5 @@ pub record IsScannedRun (from to : ℕ) (suffix : Run) (r : CategoryScan) : Type
 pub record CoversRun (t : CategorizedText) (from to limit : ℕ) (suffix : Run) : Type 0 where
   pub run : CategoryScan
   pub is : IsRunOf t run
-  pub looks : IsScannedRun from to suffix run
-  pub reports : CoversUpTo limit run
+  pub scanned : IsScannedRun from to suffix run
+  pub covered : CoversUpTo limit run

@@ -105,10 +105,11 @@ impl CategorizedText<'_> {
         }
     }
 
-    /// Returns the run after a first character, with the cached run `last` of earlier positions.
+    /// Returns the run after the first character of a position, which lies from `from` to `to` and
+    /// has the categories `first`. Scans it until it is known whether `limit` characters follow.
     ///
-    /// `range` is a hint: the index of the code point range that was found last. Any value is
-    /// valid.
+    /// `last` caches the run of an earlier position. `range` is a hint: the index of the code point
+    /// range that was found last. Any value is valid.
     #[inline(never)]
     fn cached_run(
         self,
@@ -129,15 +130,15 @@ impl CategorizedText<'_> {
         ensures covered { IfSome last.new (CoversUpTo limit) }
         ensures some { IsTrue (is_some last.new) }
     {
-        let begun = CategoryScan {
+        let started = CategoryScan {
             from,
             to,
             following: 0,
             last: first,
             is_whole: false,
         };
-        let seen = self.seen(begun, *last);
-        let run = self.scan_up_to(limit, seen, range);
+        let from_cache = self.from_cache(started, *last);
+        let run = self.scan_up_to(limit, from_cache, range);
         *last = Some(run);
         Run {
             characters: run.following,
@@ -145,22 +146,22 @@ impl CategorizedText<'_> {
         }
     }
 
-    /// Returns what is known of a run of which the first character was scanned: the rest of `last`
-    /// if that contains the position, otherwise the argument.
+    /// Returns what is known of the run `started`, of which only the first character was scanned:
+    /// the remainder of `last` from its position on if `last` contains it, otherwise `started`.
     #[inline(always)]
-    fn seen(self, begun: CategoryScan, last: Option<CategoryScan>) -> CategoryScan
-        requires started { IsRunOf self begun }
+    fn from_cache(self, started: CategoryScan, last: Option<CategoryScan>) -> CategoryScan
+        requires started { IsRunOf self started }
         requires last { IfSome last (IsRunOf self) }
         ensures run { IsRunOf self.entry result }
-        ensures from { result.from ≡ begun.from }
+        ensures from { result.from ≡ started.from }
     {
         match last {
-            Some(run) if run.contains(begun.from) => self.run_from(run, begun.from),
-            _ => begun,
+            Some(run) if run.contains(started.from) => self.run_from(run, started.from),
+            _ => started,
         }
     }
 
-    /// Returns the rest of `run` from position `place` on.
+    /// Returns the remainder of `run` from position `place` on.
     #[inline(always)]
     fn run_from(self, run: CategoryScan, place: usize) -> CategoryScan
         requires run { IsRunOf self run }

@@ -4,7 +4,7 @@ ghost use Rattle.std.specs.List.{AllByRecursion};
 ghost use Rattle.std.specs.Prelude.{◌*◌, ◌≤◌, IfOk, length};
 ghost use Rattle.std.specs.Str.{IsCharBoundary};
 ghost use Rattle.dict_image.specs.ContextIds.{HaveSameSizes};
-ghost use Rattle.word_lookup.specs.declared.context_ids.TheConstants.{COLLECTED_MAX as NotedMax};
+ghost use Rattle.word_lookup.specs.declared.context_ids.TheConstants.{COLLECTED_MAX as CollectedMax};
 ghost use Rattle.mj_model.specs.Surfaces.{IsWhole};
 ghost use Rattle.word_lookup.specs.Overlays.{overlay_of};
 ghost use Rattle.word_lookup.specs.ScanCaches.{AreScansOver};
@@ -16,15 +16,17 @@ use dict_image::ContextIds;
 use mj_model::paths::Surface;
 use std::alloc::{AllocError, Global};
 
-/// At most this many words of a position are collected. (This project's own choice.)
+/// The greatest number of words of a position whose context ids are collected. (This project's own
+/// choice.)
 ///
 /// UniDic has fewer at each position. The bound is for dictionaries with thousands of words of one
 /// surface.
 pub const COLLECTED_MAX: u32 = 128;
 
 impl Dictionaries<'_> {
-    /// Adds the context ids of the first words of each position of `text` to `ids`, in order, and
-    /// returns the number of these words. For its runs, each character is scanned once.
+    /// Adds the context ids of the first `COLLECTED_MAX` words of each position of `text` to `ids`,
+    /// in order, and returns the number of these words. For its runs, each character is scanned
+    /// once.
     pub fn collect_context_ids(
         &self,
         alloc: Global,
@@ -32,22 +34,22 @@ impl Dictionaries<'_> {
         ids: &mut ContextIds,
     ) -> Result<usize, AllocError>
         ensures sizes { HaveSameSizes ids.old ids.new }
-        ensures bounded { IfOk result (λ noted. noted ≤ NotedMax * length text.now) }
+        ensures bounded { IfOk result (λ collected. collected ≤ CollectedMax * length text.now) }
     {
         let mut surfaces = Vec::new(alloc);
         let mut last = ScanCache::none();
-        let mut noted: usize = 0;
+        let mut collected: usize = 0;
         for place in 0..text.len() {
             if text.is_char_boundary(place) {
                 let more = self.collect_at(text, place, &mut last, &mut surfaces, ids)?;
-                noted = noted.saturating_add(more as usize);
+                collected = collected.saturating_add(more as usize);
             }
         }
-        Ok(noted)
+        Ok(collected)
     }
 
-    /// Adds the context ids of the first words of position `place`, and returns the number of these
-    /// words.
+    /// Adds the context ids of the first `COLLECTED_MAX` words of position `place`, and returns the
+    /// number of these words.
     ///
     /// `last` caches the runs that were scanned before, and `surfaces` is a buffer.
     fn collect_at(
@@ -62,15 +64,15 @@ impl Dictionaries<'_> {
         requires last { AreScansOver (overlay_of self.now) text.now last.old }
         ensures last { AreScansOver (overlay_of self.now) text.now last.new }
         ensures sizes { HaveSameSizes ids.old ids.new }
-        ensures bounded { IfOk result (λ noted. noted ≤ NotedMax) }
+        ensures bounded { IfOk result (λ collected. collected ≤ CollectedMax) }
     {
         surfaces.clear();
         self.surfaces_at(text, place, last, surfaces)?;
         self.collect_surfaces(surfaces, ids)
     }
 
-    /// Adds the context ids of the first words of surfaces of these dictionaries, and returns the
-    /// number of these words.
+    /// Adds the context ids of the first `COLLECTED_MAX` words of surfaces of these dictionaries,
+    /// and returns the number of these words.
     fn collect_surfaces(
         &self,
         surfaces: &[Surface],
@@ -78,15 +80,15 @@ impl Dictionaries<'_> {
     ) -> Result<u32, AllocError>
         requires { AllByRecursion (IsWhole (surface_words (overlay_of self.now))) surfaces.now }
         ensures sizes { HaveSameSizes ids.old ids.new }
-        ensures bounded { IfOk result (λ noted. noted ≤ NotedMax) }
+        ensures bounded { IfOk result (λ collected. collected ≤ CollectedMax) }
     {
-        let mut noted = 0;
+        let mut collected = 0;
         for surface in surfaces {
-            let count = surface.count.min(COLLECTED_MAX - noted);
+            let count = surface.count.min(COLLECTED_MAX - collected);
             self.collect_first(surface, count, ids)?;
-            noted += count;
+            collected += count;
         }
-        Ok(noted)
+        Ok(collected)
     }
 
     /// Adds the context ids of the first `count` words of one surface.

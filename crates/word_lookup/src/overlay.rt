@@ -1,4 +1,4 @@
-//! Whether user dictionaries fit a system dictionary.
+//! Checks whether user dictionaries fit a system dictionary.
 
 ghost use Rattle.std.specs.Prelude.{◌≡◌, List, ◌∷◌, map, Some, OnOk, IfErr};
 ghost use Rattle.std.specs.List.{AllByRecursion};

@@ -8,7 +8,7 @@ ghost use Rattle.mj_model.specs.Tables.{System};
 use dict_image::Dict;
 use mj_model::CharInfo;
 
-/// The number of characters at the start of a text, and their length in bytes.
+/// A run of characters: their number, and their length in bytes.
 #[derive(Clone, Copy, Debug, Drop)]
 pub struct Run {
     pub characters: usize,
@@ -16,7 +16,7 @@ pub struct Run {
 }
 
 /// The part of a run at the start of a text that was scanned: its number of characters, its length
-/// in bytes, and the categories of its last character, with which the run goes on.
+/// in bytes, and the categories of its last character, from which the run continues.
 #[derive(Clone, Copy, Debug, Drop)]
 pub struct ScannedRun {
     pub characters: usize,

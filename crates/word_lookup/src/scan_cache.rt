@@ -8,8 +8,9 @@ use crate::category_scan::CategoryScan;
 
 /// The last scans of a text, kept for lookups at successive positions.
 ///
-/// The run at a position and the run after its blanks are cached apart. The blanks of a position
-/// may end far after the next position, so that a single run would be scanned anew at each of them.
+/// The run at a position without blanks and the run after the blanks of a position are cached
+/// separately. The blanks may end far after the next position, so that a single run would be
+/// scanned anew at each of them.
 #[derive(Clone, Copy, Debug, Drop)]
 pub struct ScanCache {
     pub(crate) blanks: Option<BlankScan>,

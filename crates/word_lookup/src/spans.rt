@@ -14,8 +14,8 @@ use crate::unknown_start::UnknownStart;
 use crate::word_start::suffix;
 use mj_model::Category;
 
-/// The unknown spans of a position: the whole run, if it is grouped, and those of 1 to `longest`
-/// characters.
+/// The unknown spans of a position, which are the numbers of characters of its unknown words: the
+/// whole run, if it is grouped, and 1 to `longest`.
 #[derive(Clone, Copy, Debug, Drop)]
 pub struct Spans {
     pub grouped: Option<Run>,
@@ -57,8 +57,8 @@ impl UnknownStart<'_> {
         at_least_one(none_known, spans)
     }
 
-    /// Returns the longest of the spans that are not grouped, if `following` characters follow in
-    /// the run.
+    /// Returns the longest of the spans that are not grouped, if `following` characters follow the
+    /// first one in its run.
     #[inline(always)]
     fn longest_length(self, category: Category, following: usize) -> usize
         requires { following ≤ run (image_tables self.system.now).info self.info
@@ -72,8 +72,8 @@ impl UnknownStart<'_> {
         if most <= certainly_sharing(category) {
             return most;
         }
-        let behind_first = suffix(self.at.rest, self.bytes);
-        most.min(1 + sharing_up_to(self.system, self.info, behind_first, most - 1))
+        let after_first = suffix(self.at.rest, self.bytes);
+        most.min(1 + sharing_up_to(self.system, self.info, after_first, most - 1))
     }
 }
 
@@ -113,7 +113,8 @@ fn grouped_run(category: Category, grouping: u16, first: usize, run: Run) -> Opt
     }
 }
 
-/// Returns the longest of the spans that are not grouped, if all characters shared a category.
+/// Returns the longest of the spans that are not grouped, if `following` characters follow the
+/// first one in its run and all characters share a category with it.
 #[inline(always)]
 fn longest_in_run(category: Category, following: usize) -> usize
     ensures { result ≡ longest_of category following category.length }

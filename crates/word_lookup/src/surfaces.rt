@@ -120,8 +120,9 @@ impl<'a> Dictionaries<'a> {
         self.first_with_hint(at.rest, range).unwrap_or(first)
     }
 
-    /// Appends the surfaces of the unknown words that start at `at` with the character `first`. On
-    /// an error, some of them may have been appended.
+    /// Appends the surfaces of the unknown words that start at `at` with the character `first`.
+    /// `none_known` is set if the position has no known word. On an error, some of the surfaces may
+    /// have been appended.
     #[inline(always)]
     fn append_unknown(
         &self,

@@ -25,7 +25,8 @@ impl<'a> UnknownEntries<'a> {
     ghost use Rattle.word_lookup.specs.UnknownEntries.{entries_of};
     ghost use Rattle.word_lookup.specs.WordsHere.{spans_here, unknown_up_to};
 
-    /// Appends the surfaces of these spans. On an error, some of them may have been appended.
+    /// Appends the surfaces of `spans` that start at `at` to `out`. On an error, some of them may
+    /// have been appended.
     #[inline(always)]
     pub fn append_spans(
         self,

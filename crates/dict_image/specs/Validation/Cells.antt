@@ -8,10 +8,12 @@ use Rattle.dict_image.specs.declared.validation.cell.Cell.{Cell}
 use Rattle.dict_image.specs.declared.validation.cell.Role.{Role}
 use Rattle.dict_image.specs.declared.validation.cell.Role.TheVariants.{Value, Other}
 
+-- the number as an integer
 abbrev pub number : Signed → ℤ
 number (Natural n) = pos n
 number (Negative n) = negsuc n
 
+-- BASE and CHECK of a cell as integers
 abbrev pub cell_of : Cell → CellOf
 cell_of cell = (number cell.base, number cell.check)
 

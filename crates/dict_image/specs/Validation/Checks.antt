@@ -101,5 +101,6 @@ IsRoleAfter groups code base role =
 abbrev pub HoldEachAt : ℕ → List Cell → List ℕ → Type 0
 HoldEachAt groups cells places = HoldEach groups cells × ArePlaces groups cells places
 
+-- the bytes are cells that hold each group once, and `places` are the cells of their values
 abbrev pub HoldGroupsAt : ℕ → List ℕ → List ℕ → Type 0
 HoldGroupsAt groups bytes places = HoldGroups groups bytes × ArePlaces groups (stored_cells bytes) places

@@ -1,4 +1,4 @@
--- States, and the way back over them to a cached cell.
+-- States, and the path back over them to a cached cell.
 use Rattle.std.specs.Prelude.{◌≡◌, ℕ, ◌<◌, ◌≤◌, pos, List, [], ◌∷◌, length, reverse}
 use Rattle.mj_model.specs.CellMap.{Cell, base, check}
 use Rattle.dict_image.specs.declared.validation.keys.KnownCell.{KnownCell}
@@ -16,7 +16,7 @@ abbrev pub LeadOn : List Cell → ℕ → List ℕ → ℕ → Type 0
 LeadOn cells from [] to = from ≡ to
 LeadOn cells from (t ∷ ts) to = (check cells t ≡ pos from) × IsState cells t × LeadOn cells t ts to
 
--- `way` holds the states passed on the way back from `state`, which is the first, to a cached cell
-pub record IsPathToKnown (cells : List Cell) (state : ℕ) (way : List ℕ) (known : KnownCell) : Type 0 where
-  pub front : IsKeyPrefixOf cells known.cell known.front
-  pub leads : LeadOn cells known.cell (reverse way) state
+-- `path` holds the states on the path back from `state`, which is the first, to a cached cell
+pub record IsPathToKnown (cells : List Cell) (state : ℕ) (path : List ℕ) (known : KnownCell) : Type 0 where
+  pub prefix : IsKeyPrefixOf cells known.cell known.prefix
+  pub leads : LeadOn cells known.cell (reverse path) state

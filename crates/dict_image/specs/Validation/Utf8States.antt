@@ -34,8 +34,8 @@ Accepts Broken = λ _. ⊥
 
 -- the state after `bytes`: it accepts exactly the bytes that complete them to UTF-8
 abbrev pub HasUtf8State : List ℕ → Utf8State → Type 0
-HasUtf8State bytes stand = (more : List ℕ) → IsUtf8 (bytes ++ more) ↔ Accepts stand more
+HasUtf8State bytes state = (more : List ℕ) → IsUtf8 (bytes ++ more) ↔ Accepts state more
 
 -- the state after one more byte
 abbrev pub IsAfter : Utf8State → ℕ → Utf8State → Type 0
-IsAfter stand byte next = (more : List ℕ) → Accepts stand (byte ∷ more) ↔ Accepts next more
+IsAfter state byte next = (more : List ℕ) → Accepts state (byte ∷ more) ↔ Accepts next more

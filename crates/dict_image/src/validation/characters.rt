@@ -1,4 +1,4 @@
-//! Which parts of some bytes are UTF-8. (RFC 3629)
+//! Tests which parts of some bytes are UTF-8. (RFC 3629)
 ghost use Rattle.std.specs.Prelude.{◌≡◌, ◌<◌, ◌≤◌, ◌↔◌, length, slice_range, IsTrue, IfOk, IsUtf8};
 ghost use Rattle.dict_image.specs.Validation.Stretches.{AreWrong, IsStretchEnd, IsEndOf, IsNextWrong};
 

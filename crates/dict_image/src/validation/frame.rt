@@ -2,7 +2,7 @@
 ghost use Rattle.std.specs.Prelude.{◌≡◌, ◌≤◌, ◌↔◌, take, length, IsTrue};
 ghost use Rattle.image_format.specs.ImageBytes.{header_of, image_magic};
 ghost use Rattle.image_format.specs.ImageFaults.{IsDigestAt};
-ghost use Rattle.image_format.specs.declared.digest_test.DigestTest.TheVariants.{Made};
+ghost use Rattle.image_format.specs.declared.digest_test.DigestTest.TheVariants.{Verified};
 ghost use Rattle.dict_image.specs.Validation.Checks.{EndsResult, PrefixResult};
 
 use image_format::{DigestTest, HEADER_LENGTH, Header, MAGIC, read_header, section_ends};
@@ -66,7 +66,7 @@ fn passes_digest(bytes: &[u8], end: usize, digest: DigestTest) -> bool
     ensures { IsTrue result ↔ IsDigestAt digest end bytes.now }
 {
     match digest {
-        DigestTest::Made => is_digest_from(bytes, end),
+        DigestTest::Verified => is_digest_from(bytes, end),
         DigestTest::Skipped => true,
     }
 }
@@ -74,7 +74,7 @@ fn passes_digest(bytes: &[u8], end: usize, digest: DigestTest) -> bool
 /// Returns whether the bytes from `end` on are the SHA-256 of all bytes before. (FIPS 180-4)
 fn is_digest_from(bytes: &[u8], end: usize) -> bool
     requires { end ≤ length bytes.now }
-    ensures { IsTrue result ↔ IsDigestAt Made end bytes.now }
+    ensures { IsTrue result ↔ IsDigestAt Verified end bytes.now }
 {
     let digest = Sha256::digest(&bytes[..end]);
     &bytes[end..] == &digest[..]

@@ -10,7 +10,8 @@ use mj_model::SURFACE_MAX;
 pub(crate) struct KeyPrefix {
     /// Length in bytes, at most `SURFACE_MAX`.
     length: u16,
-    stand: Utf8State,
+    /// The state of a UTF-8 decoder after the bytes.
+    state: Utf8State,
 }
 
 impl KeyPrefix {
@@ -20,7 +21,7 @@ impl KeyPrefix {
     {
         KeyPrefix {
             length: 0,
-            stand: Utf8State::Between,
+            state: Utf8State::Between,
         }
     }
 
@@ -34,7 +35,7 @@ impl KeyPrefix {
         }
         Some(KeyPrefix {
             length: self.length + 1,
-            stand: self.stand.after(byte),
+            state: self.state.after(byte),
         })
     }
 
@@ -43,6 +44,6 @@ impl KeyPrefix {
         ensures { (key : List ℕ) → IsKeyPrefix key self
             → IsTrue result ↔ ((1 ≤ length key) × IsUtf8 key) }
     {
-        self.length != 0 && matches!(self.stand, Utf8State::Between)
+        self.length != 0 && matches!(self.state, Utf8State::Between)
     }
 }

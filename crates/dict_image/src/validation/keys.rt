@@ -21,11 +21,11 @@ use std::alloc::{AllocError, Global};
 #[derive(Clone, Copy)]
 struct KnownCell {
     cell: usize,
-    front: KeyPrefix,
+    prefix: KeyPrefix,
 }
 
-/// Returns the first group without a key, or None if each group has one. `places` are the cells of
-/// the groups' values. Linear in the number of cells.
+/// Returns the first group without a key, or None if each group has one. `places` are the numbers
+/// of the cells of the groups' values. Linear in the number of cells.
 pub(crate) fn first_without_key(
     alloc: Global,
     groups: u32,
@@ -36,11 +36,11 @@ pub(crate) fn first_without_key(
     requires places { ArePlaces groups (stored_cells cells.now.bytes.now) places.now }
     ensures { IfOk result (IsLeastOrNone groups (HasKey (stored_cells cells.now.bytes.now))) }
 {
-    let mut fronts = root_key_prefix(alloc, cells)?;
-    let mut way = Vec::new(alloc);
+    let mut prefixes = root_key_prefix(alloc, cells)?;
+    let mut path = Vec::new(alloc);
     for group in 0..groups {
         let place = places[group as usize] as usize;
-        if !has_key(cells, group, place, &mut fronts, &mut way)? {
+        if !has_key(cells, group, place, &mut prefixes, &mut path)? {
             return Ok(Some(group));
         }
     }
@@ -54,11 +54,11 @@ fn root_key_prefix(
 ) -> Result<Vec<Option<KeyPrefix>>, AllocError>
     requires cells { AreCells (stored_cells cells.now.bytes.now) }
     ensures { IfOk result
-        (λ fronts. AreKeyPrefixes (stored_cells cells.now.bytes.now) fronts.items) }
+        (λ prefixes. AreKeyPrefixes (stored_cells cells.now.bytes.now) prefixes.items) }
 {
-    let mut fronts = Vec::from_elem(alloc, None, cells.len())?;
-    fronts[0] = Some(KeyPrefix::empty());
-    Ok(fronts)
+    let mut prefixes = Vec::from_elem(alloc, None, cells.len())?;
+    prefixes[0] = Some(KeyPrefix::empty());
+    Ok(prefixes)
 }
 
 /// Returns whether `group` has a key. `place` is the cell of its value.
@@ -66,98 +66,98 @@ fn has_key(
     cells: &ImageCells<'_>,
     group: u32,
     place: usize,
-    fronts: &mut [Option<KeyPrefix>],
-    way: &mut Vec<usize>,
+    prefixes: &mut [Option<KeyPrefix>],
+    path: &mut Vec<usize>,
 ) -> Result<bool, AllocError>
     requires cells { AreCells (stored_cells cells.now.bytes.now) }
     requires once { OccursOnce (stored_cells cells.now.bytes.now) group }
     requires holds { base_of (stored_cells cells.now.bytes.now) place ≡ negsuc group }
-    requires fronts { AreKeyPrefixes (stored_cells cells.now.bytes.now) fronts.old }
-    ensures fronts { AreKeyPrefixes (stored_cells cells.now.bytes.now) fronts.new }
+    requires prefixes { AreKeyPrefixes (stored_cells cells.now.bytes.now) prefixes.old }
+    ensures prefixes { AreKeyPrefixes (stored_cells cells.now.bytes.now) prefixes.new }
     ensures has { IfOk result
         (λ has. IsTrue has ↔ HasKey (stored_cells cells.now.bytes.now) group) }
 {
     let state = state_before(cells, place);
-    match key_prefix_of(cells, state, fronts, way)? {
-        Some(front) => Ok(front.is_key()),
+    match key_prefix_of(cells, state, prefixes, path)? {
+        Some(prefix) => Ok(prefix.is_key()),
         None => Ok(false),
     }
 }
 
 /// Returns the prefix that leads to `state`, and caches it. Returns None if no bytes lead there, or
-/// more than `SURFACE_MAX`. `way` is a buffer for the states on the way back to a cached cell.
+/// more than `SURFACE_MAX`. `path` is a buffer for the states on the path back to a cached cell.
 fn key_prefix_of(
     cells: &ImageCells<'_>,
     state: usize,
-    fronts: &mut [Option<KeyPrefix>],
-    way: &mut Vec<usize>,
+    prefixes: &mut [Option<KeyPrefix>],
+    path: &mut Vec<usize>,
 ) -> Result<Option<KeyPrefix>, AllocError>
     requires cells { AreCells (stored_cells cells.now.bytes.now) }
     requires state { IsState (stored_cells cells.now.bytes.now) state }
-    requires fronts { AreKeyPrefixes (stored_cells cells.now.bytes.now) fronts.old }
-    ensures fronts { AreKeyPrefixes (stored_cells cells.now.bytes.now) fronts.new }
+    requires prefixes { AreKeyPrefixes (stored_cells cells.now.bytes.now) prefixes.old }
+    ensures prefixes { AreKeyPrefixes (stored_cells cells.now.bytes.now) prefixes.new }
     ensures key_prefix { IfOk result (IsKeyPrefixIfNear (stored_cells cells.now.bytes.now) state) }
 {
-    match path_to_known(cells, state, fronts, way)? {
-        Some(known) => Ok(record_path(cells, known, fronts, way)),
+    match path_to_known(cells, state, prefixes, path)? {
+        Some(known) => Ok(record_path(cells, known, prefixes, path)),
         None => Ok(None),
     }
 }
 
-/// Returns the first cached cell on the way back from `state`, and stores the uncached states in
-/// `way`. Returns None after `SURFACE_MAX` of them.
+/// Returns the first cached cell on the path back from `state`, and stores the uncached states in
+/// `path`. Returns None after `SURFACE_MAX` of them.
 fn path_to_known(
     cells: &ImageCells<'_>,
     state: usize,
-    fronts: &[Option<KeyPrefix>],
-    way: &mut Vec<usize>,
+    prefixes: &[Option<KeyPrefix>],
+    path: &mut Vec<usize>,
 ) -> Result<Option<KnownCell>, AllocError>
     requires cells { AreCells (stored_cells cells.now.bytes.now) }
     requires state { IsState (stored_cells cells.now.bytes.now) state }
-    requires fronts { AreKeyPrefixes (stored_cells cells.now.bytes.now) fronts.now }
+    requires prefixes { AreKeyPrefixes (stored_cells cells.now.bytes.now) prefixes.now }
     ensures { IfOk result (λ found. MatchOption found
         (IsTooFar (stored_cells cells.now.bytes.now) state)
-        (IsPathToKnown (stored_cells cells.now.bytes.now) state way.new.items)) }
+        (IsPathToKnown (stored_cells cells.now.bytes.now) state path.new.items)) }
 {
-    way.clear();
+    path.clear();
     let mut cell = state;
     loop {
-        if let Some(front) = fronts[cell] {
-            return Ok(Some(KnownCell { cell, front }));
+        if let Some(prefix) = prefixes[cell] {
+            return Ok(Some(KnownCell { cell, prefix }));
         }
-        if way.len() == SURFACE_MAX {
+        if path.len() == SURFACE_MAX {
             return Ok(None);
         }
-        way.push(cell)?;
+        path.push(cell)?;
         cell = state_before(cells, cell);
     }
 }
 
-/// Caches the prefix of each state in `way`, from the one next to `known` on, and returns the
+/// Caches the prefix of each state in `path`, from the one next to `known` on, and returns the
 /// prefix of the last. Returns None if it becomes too long.
 fn record_path(
     cells: &ImageCells<'_>,
     known: KnownCell,
-    fronts: &mut [Option<KeyPrefix>],
-    way: &mut Vec<usize>,
+    prefixes: &mut [Option<KeyPrefix>],
+    path: &mut Vec<usize>,
 ) -> Option<KeyPrefix>
     requires cells { AreCells (stored_cells cells.now.bytes.now) }
-    requires fronts { AreKeyPrefixes (stored_cells cells.now.bytes.now) fronts.old }
+    requires prefixes { AreKeyPrefixes (stored_cells cells.now.bytes.now) prefixes.old }
     requires path { (state : ℕ)
-        × IsPathToKnown (stored_cells cells.now.bytes.now) state way.old.items known }
-    ensures fronts { AreKeyPrefixes (stored_cells cells.now.bytes.now) fronts.new }
+        × IsPathToKnown (stored_cells cells.now.bytes.now) state path.old.items known }
+    ensures prefixes { AreKeyPrefixes (stored_cells cells.now.bytes.now) prefixes.new }
     ensures key_prefix { (state : ℕ)
-        → IsPathToKnown (stored_cells cells.now.bytes.now) state way.old.items known
+        → IsPathToKnown (stored_cells cells.now.bytes.now) state path.old.items known
         → IsKeyPrefixIfNear (stored_cells cells.now.bytes.now) state result }
 {
     let mut cell = known.cell;
-    let mut front = known.front;
-    while let Some(next) = way.pop() {
-        front = front.after(byte_between(cells, cell, next))?;
-        fronts[next] = Some(front);
+    let mut prefix = known.prefix;
+    while let Some(next) = path.pop() {
+        prefix = prefix.after(byte_between(cells, cell, next))?;
+        prefixes[next] = Some(prefix);
         cell = next;
     }
-    Some(front)
+    Some(prefix)
 }
 
 /// Returns the byte of the step from state `from` to state `to`.

@@ -10,8 +10,8 @@ use image_format::ImageCells;
 use mj_model::cell_walk::CellRead;
 use std::alloc::{AllocError, Global};
 
-/// Returns the cell of each group's value. Returns None if the bytes are not cells that follow the
-/// rules and hold each group once.
+/// Returns for each group the number of the cell that holds its value. Returns None if the bytes
+/// are not cells that follow the rules and hold each group once.
 pub(crate) fn value_places(
     alloc: Global,
     groups: u32,

@@ -1,5 +1,5 @@
-//! Texts for the tests of command lines. Those that the programs print are in `messages`, and
-//! `tests/cli` tests them, so that a change of a text does not prove these tests again.
+//! Texts for the tests of command lines. The programs' own texts are in `messages`, and `tests/cli`
+//! tests them, so that a change of a text does not prove these tests again.
 
 use command_lines::{Explanation, Texts};
 

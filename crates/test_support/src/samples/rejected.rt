@@ -31,7 +31,7 @@ pub fn dict_again(
     };
     match load(rt.alloc(), image_again(rt, &sources)?) {
         Ok(dict) => Ok(dict),
-        Err(_refused) => {
+        Err(_error) => {
             rt.eprintln("refused")?;
             Ok(load(rt.alloc(), image_again(rt, &sources)?)?)
         }

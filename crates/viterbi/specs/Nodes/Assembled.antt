@@ -22,17 +22,17 @@ IsSmallTotal (Some chain) = IsSmall chain
 -- a forward cost plus a backward cost, if there is one
 abbrev pub sum_of : ChainCost → Option ChainCost → Option ℤ
 sum_of total None = None
-sum_of total (Some rest) = Some (total.cost +ℤ rest.cost)
+sum_of total (Some backward) = Some (total.cost +ℤ backward.cost)
 
 -- the node has word i, its forward cost, and the sum of its forward and backward costs
 pub record IsNodeAt (ws : List Word) (forward_costs backward_costs : List (Option ChainCost)) (i : ℕ) (n : LatticeNode) : Type 0 where
   pub total : ChainCost
-  pub rest : Option ChainCost
+  pub backward : Option ChainCost
   pub word_here : slice_get ws i ≡ Some n.word
   pub total_here : slice_get forward_costs i ≡ Some (Some total)
-  pub rest_here : slice_get backward_costs i ≡ Some rest
+  pub backward_here : slice_get backward_costs i ≡ Some backward
   pub total_is : n.total ≡ total.cost
-  pub through_is : n.through ≡ sum_of total rest
+  pub through_is : n.through ≡ sum_of total backward
 
 -- the nodes are those of the first `count` words
 pub record AreNodes (ws : List Word) (forward_costs backward_costs : List (Option ChainCost)) (count : ℕ) (nodes : List LatticeNode) : Type 0 where

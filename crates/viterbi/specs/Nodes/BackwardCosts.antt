@@ -13,12 +13,12 @@ use Rattle.viterbi.specs.Nodes.ForwardCosts.{HeadIsBelow}
 abbrev pub IsLongest : (ℕ → List Word) → ℕ → Type 0
 IsLongest words to = (vs : List Word) (later : ℕ) → IsChain words 0 vs later → later ≤ to
 
--- c is the cost of a way from word w to EOS
+-- c is the cost of words that follow w to the end of a path, with the connection to EOS
 abbrev pub CostsToEos : (ℕ → List Word) → (ℕ → ℕ → ℤ) → Word → ℤ → Type 0
 CostsToEos words conn w c = (after : List Word) × (to : ℕ) × IsChain words w.end after to × IsLongest words to × (c ≡ cost_after conn w.right after)
 
--- c is the cost of a way from word w to EOS that is empty or starts with one of the first `count`
--- words
+-- c is the cost of words that follow w to the end of a path, with the connection to EOS. There are
+-- none, or the first is one of the first `count` words
 abbrev pub CostsToEosBelow : (ℕ → List Word) → (ℕ → ℕ → ℤ) → List Word → ℕ → Word → ℤ → Type 0
 CostsToEosBelow words conn ws count w c = (after : List Word) × (to : ℕ) × IsChain words w.end after to × IsLongest words to × HeadIsBelow ws count after × (c ≡ cost_after conn w.right after)
 
@@ -41,6 +41,7 @@ pub record AreBackwardCosts (words : ℕ → List Word) (conn : ℕ → ℕ → 
   pub ended : (k : ℕ) (w : Word) (o : Option ChainCost) → k < number → slice_get ws k ≡ Some w → slice_get backward_costs k ≡ Some o
       → IsLeastOf (CostsToEosBelow words conn ws 0 w) (number_of o)
 
+-- the backward costs of the reachable words of a text from `number` on are known
 abbrev pub AreBackwardCostsFrom : SearchedText → ReachableWords → ℕ → List (Option ChainCost) → Type 0
 AreBackwardCostsFrom t r number backward_costs = AreBackwardCosts t.words t.connection r.words.items number backward_costs
 
@@ -52,9 +53,9 @@ AreBackwardCostsIn t r backward_costs = AreBackwardCostsFrom t r 0 backward_cost
 abbrev pub IsBackwardCostAt : SearchedText → ReachableWords → ℕ → Option ChainCost → Type 0
 IsBackwardCostAt t r number o = (w : Word) → slice_get r.words.items number ≡ Some w → IsLeastOf (CostsToEos t.words t.connection w) (number_of o)
 
--- the lesser of the least cost so far and the cost of going on with word w after this right id, if
--- a path goes on there
+-- the lesser of the least cost so far and the cost of continuing with word w after this right id;
+-- `backward` is the backward cost of w, or none if no path contains w
 abbrev pub IsLeastWith : SearchedText → Option ChainCost → Option ChainCost → ℕ → Word → Option ChainCost → Type 0
 IsLeastWith t least None right w result = result ≡ least
-IsLeastWith t least (Some rest) right w None = ⊥
-IsLeastWith t least (Some rest) right w (Some result) = IsLesser least (record { cost = (rest.cost +ℤ t.connection right w.left) +ℤ w.cost }) result
+IsLeastWith t least (Some backward) right w None = ⊥
+IsLeastWith t least (Some backward) right w (Some result) = IsLesser least (record { cost = (backward.cost +ℤ t.connection right w.left) +ℤ w.cost }) result

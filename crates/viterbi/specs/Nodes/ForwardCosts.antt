@@ -27,6 +27,8 @@ pub record ArePropagated (words : ℕ → List Word) (conn : ℕ → ℕ → ℤ
   pub rest : (k : ℕ) (w : Word) (o : Option ChainCost) → number ≤ k → slice_get ws k ≡ Some w → slice_get forward_costs k ≡ Some o
       → IsLeastOf (CostsUpToBelow words conn ws count w) (number_of o)
 
+-- the forward costs of the first `count` reachable words of a text were propagated to all, and that
+-- of the next word to the words before `number`
 abbrev pub ArePropagatedIn : SearchedText → ReachableWords → ℕ → ℕ → List (Option ChainCost) → Type 0
 ArePropagatedIn t r count number forward_costs = ArePropagated t.words t.connection r.words.items count number forward_costs
 

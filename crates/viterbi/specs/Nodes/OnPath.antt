@@ -23,6 +23,6 @@ pub record IsFirstAt (path : List Word) (from place first : ℕ) : Type 0 where
   pub before : (k : ℕ) (w : Word) → from ≤ k → k < first → slice_get path k ≡ Some w → w.place < place
   pub there : (w : Word) → slice_get path first ≡ Some w → place ≤ w.place
 
--- `answer` is true exactly if word `number` of the path is this word
+-- `result` is true exactly if word `number` of the path is this word
 abbrev pub IsWordAt : List Word → ℕ → Word → Bool → Type 0
-IsWordAt path number word answer = (answer ≡ true) ↔ (slice_get path number ≡ Some word)
+IsWordAt path number word result = (result ≡ true) ↔ (slice_get path number ≡ Some word)

@@ -8,7 +8,7 @@ use Rattle.viterbi.specs.declared.rivals.nodes_with_neighbors.NodesWithNeighbors
 -- the lists have one entry for each node, neighbors have numbers of nodes, and no forward cost is
 -- near overflow
 pub record HaveNeighbors (linked : NodesWithNeighbors) : Type 0 where
-  pub reported : length linked.on_best.items ≡ length linked.nodes.items
+  pub on_best_long : length linked.on_best.items ≡ length linked.nodes.items
   pub before_long : length linked.before.items ≡ length linked.nodes.items
   pub after_long : length linked.after.items ≡ length linked.nodes.items
   pub before_within : LeadWithin (length linked.nodes.items) linked.before.items

@@ -24,16 +24,17 @@ pub record ArePropagated (conn : ℕ → ℕ → ℤ) (nodes : List LatticeNode)
       → link.node ≡ None
       → m.word.end ≡ n.word.place → IsTotalFrom conn m n → ⊥
 
--- node m becomes the predecessor of n if it precedes n on a chain of least cost; otherwise the
--- neighbor stays
+-- m precedes n on a chain of least cost, and becomes its predecessor; `number` is the number of m
 pub record IsUpdated (conn : ℕ → ℕ → ℤ) (number : ℕ) (m n : LatticeNode) (result : Neighbor) : Type 0 where
   pub total : IsTotalFrom conn m n
   pub node : result.node ≡ Some number
   pub connection : result.connection ≡ conn m.word.right n.word.left
 
-pub record IsLeft (conn : ℕ → ℕ → ℤ) (m n : LatticeNode) (link result : Neighbor) : Type 0 where
+-- m doesn't precede n on a chain of least cost, and the neighbor `link` of n is unchanged
+pub record IsUnchanged (conn : ℕ → ℕ → ℤ) (m n : LatticeNode) (link result : Neighbor) : Type 0 where
   pub other : IsTotalFrom conn m n → ⊥
   pub is : result ≡ link
 
+-- the predecessor of n after m was tried; `link` is the predecessor so far
 abbrev pub IsPredecessorFrom : (ℕ → ℕ → ℤ) → ℕ → LatticeNode → LatticeNode → Neighbor → Neighbor → Type 0
-IsPredecessorFrom conn number m n link result = IsUpdated conn number m n result ⊎ IsLeft conn m n link result
+IsPredecessorFrom conn number m n link result = IsUpdated conn number m n result ⊎ IsUnchanged conn m n link result

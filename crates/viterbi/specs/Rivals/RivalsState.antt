@@ -37,11 +37,12 @@ pub record AreWithNeighbors (words : ℕ → List Word) (conn : ℕ → ℕ → 
   pub before : AreBefore conn linked.nodes.items linked.before.items
   pub after : AreAfter words conn linked.nodes.items linked.after.items
 
--- the state is that of a text with this best path
+-- the state is that of a text with these words and connection costs, `len` bytes and this best path
 pub record AreRivals (words : ℕ → List Word) (conn : ℕ → ℕ → ℤ) (len : ℕ) (best : List Word) (r : RivalsState) : Type 0 where
   pub linked : AreWithNeighbors words conn len best r.linked
   pub bests : AreBestRivals words conn r.linked.nodes.items best r.bests
   pub steps : r.steps ≡ steps_of conn best
 
+-- the state is that of text t with this best path
 abbrev pub AreRivalsIn : SearchedText → List Word → RivalsState → Type 0
 AreRivalsIn t best r = AreRivals t.words t.connection t.text_length best r

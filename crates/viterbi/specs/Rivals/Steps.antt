@@ -28,5 +28,6 @@ pub record IsPassed (best : Option Rival) (n : LatticeNode) (w : Word) (result :
   pub no_less : (cost : ℤ) → n.through ≡ Some cost → Replaces n.word w → IsNotBelow cost best
   pub is : result ≡ best
 
+-- the best rival of w after node n was visited; `best` is the best rival so far
 abbrev pub IsBetter : Option Rival → ℕ → LatticeNode → Word → Option Rival → Type 0
 IsBetter best number n w result = IsTaken best number n w result ⊎ IsPassed best n w result

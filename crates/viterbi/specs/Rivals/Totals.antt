@@ -18,10 +18,10 @@ abbrev pub backward_cost_in : ℤ → Option ℤ → Option Total
 backward_cost_in total None = None
 backward_cost_in total (Some cost) = Some (record { cost = cost -ℤ total })
 
--- `answer` is true exactly if the forward cost of n is that of m plus the costs of the step to n
+-- `result` is true exactly if the forward cost of n is that of m plus the costs of the step to n
 abbrev pub IsPredecessorCost : LatticeNode → Neighbor → LatticeNode → Bool → Type 0
-IsPredecessorCost m link n answer = (answer ≡ true) ↔ (n.total ≡ (m.total +ℤ link.connection) +ℤ n.word.cost)
+IsPredecessorCost m link n result = (result ≡ true) ↔ (n.total ≡ (m.total +ℤ link.connection) +ℤ n.word.cost)
 
--- `answer` is true exactly if backward cost `rest` is `further` plus the costs of the step to m
+-- `result` is true exactly if backward cost `backward` is `further` plus the costs of the step to m
 abbrev pub IsSuccessorCost : Total → Neighbor → LatticeNode → Total → Bool → Type 0
-IsSuccessorCost rest link m further answer = (answer ≡ true) ↔ (rest.cost ≡ (further.cost +ℤ link.connection) +ℤ m.word.cost)
+IsSuccessorCost backward link m further result = (result ≡ true) ↔ (backward.cost ≡ (further.cost +ℤ link.connection) +ℤ m.word.cost)

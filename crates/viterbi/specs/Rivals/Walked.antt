@@ -45,8 +45,8 @@ pub record IsWalkedBackward (words : ℕ → List Word) (conn : ℕ → ℕ → 
   pub place : ℕ
   pub before : List PathStep
   pub chosen : PathStep
-  pub is_predecessor : IsChainTo words front place
-  pub is_successor : IsChain words place (words_of (reverse back)) n.word.end
+  pub prefix_chain : IsChainTo words front place
+  pub steps_chain : IsChain words place (words_of (reverse back)) n.word.end
   pub steps_are : reverse back ≡ steps_after conn (last_right front) (cost_to conn front) (words_of (reverse back))
   pub parts : reverse back ≡ before ++ chosen ∷ []
   pub chosen_is : chosen.word ≡ n.word
@@ -61,7 +61,7 @@ pub record IsWalkedBackward (words : ℕ → List Word) (conn : ℕ → ℕ → 
 pub record IsWalkedForward (words : ℕ → List Word) (conn : ℕ → ℕ → ℤ) (best : List Word) (n : LatticeNode) (cost : ℤ) (reaches : Bool) (on : List PathStep) : Type 0 where
   pub back : List Word
   pub to : ℕ
-  pub is_successor : IsChain words n.word.end (words_of on ++ back) to
+  pub steps_chain : IsChain words n.word.end (words_of on ++ back) to
   pub longest : IsLongest words to
   pub steps_are : on ≡ steps_after conn n.word.right n.total (words_of on)
   pub cost_is : cost ≡ n.total +ℤ cost_after conn n.word.right (words_of on ++ back)

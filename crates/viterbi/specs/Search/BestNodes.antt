@@ -37,10 +37,10 @@ words_of_numbers words numbers = reverse (filter_map (slice_get words) numbers)
 
 -- the numbers are those of nodes, the last node first, and none belongs to a group before this one
 pub record AreNodesFrom (words_of : Surface → List Word) (by_surface : List SurfaceNodes) (first : ℕ) (numbers : List ℕ) : Type 0 where
-  pub bundles_are : AreSurfaceNodes words_of by_surface
+  pub groups_are : AreSurfaceNodes words_of by_surface
   pub falling : (a b i j : ℕ) → a < b → slice_get numbers a ≡ Some i → slice_get numbers b ≡ Some j → j < i
   pub within : (a i : ℕ) → slice_get numbers a ≡ Some i → i < length (node_words words_of by_surface)
-  pub next_ones : (a i : ℕ) → slice_get numbers a ≡ Some i → length (node_words words_of (take first by_surface)) ≤ i
+  pub from_first : (a i : ℕ) → slice_get numbers a ≡ Some i → length (node_words words_of (take first by_surface)) ≤ i
 
 -- after the backtrace, `heads` holds the numbers of the best path's nodes
 abbrev pub HaveBestNodes : SearchedText → Nodes → Type 0

@@ -41,8 +41,7 @@ words_of_surface_nodes words_of surface_nodes = reverse (words_of surface_nodes.
 abbrev pub node_words : (Surface → List Word) → List SurfaceNodes → List Word
 node_words words_of by_surface = flat_map (words_of_surface_nodes words_of) by_surface
 
--- each surface has as many words as it claims, and the nodes of each group follow those of the
--- groups before it
+-- each surface has `count` words, and the nodes of each group follow those of the groups before it
 pub record AreSurfaceNodes (words_of : Surface → List Word) (by_surface : List SurfaceNodes) : Type 0 where
   pub whole : (number : ℕ) (surface_nodes : SurfaceNodes) → slice_get by_surface number ≡ Some surface_nodes → IsWhole words_of surface_nodes.surface
   pub from : (number : ℕ) (surface_nodes : SurfaceNodes) → slice_get by_surface number ≡ Some surface_nodes → surface_nodes.from ≡ length (node_words words_of (take number by_surface))

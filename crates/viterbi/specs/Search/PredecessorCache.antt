@@ -7,9 +7,9 @@ use Rattle.viterbi.specs.declared.search.node.Predecessor.{Predecessor}
 abbrev pub IsCachedFor : List CachedPredecessor → ℕ → Predecessor → Type 0
 IsCachedFor found left predecessor = Contains found (record { left = left; predecessor = predecessor })
 
--- `answer` is the cached predecessor for this left id, or none if there is none
+-- `result` is the cached predecessor for this left id, or none if there is none
 abbrev pub IsCacheResult : List CachedPredecessor → ℕ → Option Predecessor → Type 0
-IsCacheResult found left answer = (predecessor : Predecessor) → (answer ≡ Some predecessor) ↔ IsCachedFor found left predecessor
+IsCacheResult found left result = (predecessor : Predecessor) → (result ≡ Some predecessor) ↔ IsCachedFor found left predecessor
 
 -- no predecessor is cached for this left id
 abbrev pub IsUncached : List CachedPredecessor → ℕ → Type 0

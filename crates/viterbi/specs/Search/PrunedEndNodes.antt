@@ -34,43 +34,44 @@ pub record AreBestEndNodes (nodes : List Node) (place : ℕ) (ends : List EndNod
 
 -- ---- how the pruned end nodes are found
 
--- the recorded end node has a lower rank, the same right id, and costs no more
-pub record IsNotCostlier (ends : List EndNode) (noted rank : ℕ) : Type 0 where
+-- the end node with rank `recorded` precedes the one with rank `rank`, has its right id, and costs
+-- no more
+pub record IsNotCostlier (ends : List EndNode) (recorded rank : ℕ) : Type 0 where
   pub end : EndNode
   pub other : EndNode
-  pub before : noted < rank
-  pub here : slice_get ends noted ≡ Some end
+  pub before : recorded < rank
+  pub here : slice_get ends recorded ≡ Some end
   pub there : slice_get ends rank ≡ Some other
   pub right : end.right ≡ other.right
   pub cost : end.total ≤ℤ other.total
 
--- the rank of one of the first end nodes is recorded for the right id of x, and that end node
--- replaces x
+-- the rank of one of the first `count` end nodes is recorded for the right id of x, and that end
+-- node replaces x
 pub record IsSuperseded (ends : List EndNode) (count : ℕ) (ranks : List ℕ) (other : ℕ) (x : EndNode) : Type 0 where
   pub rank : ℕ
   pub end : EndNode
-  pub noted : slice_get ranks x.right ≡ Some rank
+  pub recorded : slice_get ranks x.right ≡ Some rank
   pub within : rank < count
   pub here : slice_get ends rank ≡ Some end
   pub serves : Supersedes rank end other x
 
--- for the right id of each of the first end nodes, the rank of the first of least forward cost is
--- recorded
+-- for the right id of each of the first `count` end nodes, the rank of the first of least forward
+-- cost is recorded
 abbrev pub AreRecorded : List EndNode → ℕ → List ℕ → Type 0
 AreRecorded ends count ranks = (i : ℕ) (x : EndNode) → i < count → slice_get ends i ≡ Some x → IsSuperseded ends count ranks i x
 
--- the r-th kept end node is the q-th of the first end nodes, and its rank is recorded
-pub record IsRecordedFrom (all : List EndNode) (noted : List ℕ) (count : ℕ) (kept : List EndNode) (r q : ℕ) : Type 0 where
+-- the r-th kept end node is the q-th of the first `count` end nodes, and its rank is recorded
+pub record IsRecordedFrom (all : List EndNode) (recorded : List ℕ) (count : ℕ) (kept : List EndNode) (r q : ℕ) : Type 0 where
   pub end : EndNode
   pub low : q < count
   pub here : slice_get kept r ≡ Some end
   pub there : slice_get all q ≡ Some end
-  pub slot : slice_get noted end.right ≡ Some q
+  pub slot : slice_get recorded end.right ≡ Some q
 
--- the first end nodes whose rank is recorded are kept; `ranks` are their ranks
-pub record RecordedEndNodes (all : List EndNode) (noted : List ℕ) (count : ℕ) (kept : List EndNode) : Type 0 where
+-- the first `count` end nodes whose rank is recorded are kept; `ranks` are their ranks
+pub record RecordedEndNodes (all : List EndNode) (recorded : List ℕ) (count : ℕ) (kept : List EndNode) : Type 0 where
   pub ranks : List ℕ
-  pub each : (r q : ℕ) → slice_get ranks r ≡ Some q → IsRecordedFrom all noted count kept r q
+  pub each : (r q : ℕ) → slice_get ranks r ≡ Some q → IsRecordedFrom all recorded count kept r q
   pub long : length ranks ≡ length kept
   pub rising : (a b i j : ℕ) → a < b → slice_get ranks a ≡ Some i → slice_get ranks b ≡ Some j → i < j
-  pub found : (q : ℕ) (x : EndNode) → q < count → slice_get all q ≡ Some x → slice_get noted x.right ≡ Some q → (r : ℕ) × (slice_get ranks r ≡ Some q) × (slice_get kept r ≡ Some x)
+  pub found : (q : ℕ) (x : EndNode) → q < count → slice_get all q ≡ Some x → slice_get recorded x.right ≡ Some q → (r : ℕ) × (slice_get ranks r ≡ Some q) × (slice_get kept r ≡ Some x)

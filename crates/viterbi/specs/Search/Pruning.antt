@@ -63,10 +63,11 @@ pub record ArePrunedSurfaces (t : SearchedText) (ends : List EndNode) (old new :
 -- each word may follow each end node, and forward costs are far from overflow
 pub record CanBePruned (t : SearchedText) (ends : List EndNode) (ws : List Word) : Type 0 where
   pub some : 0 < length ends
-  pub totals : All HasSmallTotal ends
+  pub forward_costs : All HasSmallTotal ends
   pub connections : (right left : ℕ) → IsWithin (2 ^ 15) (t.connection right left)
   pub pairs : (w : Word) → Contains ws w → All (IsFollowedBy t.is_pair w.left) ends
 
+-- the words of all surfaces of a position can be pruned
 pub record CanBePrunedAll (t : SearchedText) (ends : List EndNode) (surfaces : List Surface) : Type 0 where
   pub whole : AllByRecursion (IsWhole t.surface_words) surfaces
   pub words : CanBePruned t ends (flat_map t.surface_words surfaces)

@@ -1,4 +1,4 @@
--- A text as the search sees it.
+-- A text as the search reads it.
 use Rattle.std.specs.Prelude.{◌≡◌, ℕ, ℤ, ◌+◌, ◌≤◌, List, length, take, flat_map, slice_get, slice_index_or, true}
 use Rattle.std.specs.Option.{option_map_or}
 use Rattle.mj_model.specs.declared.word.Word.{Word}
@@ -73,16 +73,17 @@ AreRightsStored t by_surface backpointers = HaveRights (node_words t.surface_wor
 -- the groups have surfaces of the text, are linked by their ends and by the heads of the positions,
 -- and each of their nodes has a backpointer
 pub record AreStored (t : SearchedText) (by_surface : List SurfaceNodes) (backpointers : List Backpointer) (heads : List ℕ) : Type 0 where
-  pub bundles_are : AreSurfaceNodes t.surface_words by_surface
+  pub groups_are : AreSurfaceNodes t.surface_words by_surface
   pub all : AreAllStored t by_surface backpointers
   pub rights : HaveRights (node_words t.surface_words by_surface) backpointers
   pub linked : AreLinked by_surface heads
   pub places : length heads ≡ t.text_length + 1
 
--- the nodes are stored with their links and heads, as one value
+-- the groups, backpointers and heads in `ns` are those of nodes of the text
 abbrev pub AreStoredIn : SearchedText → Nodes → Type 0
 AreStoredIn t ns = AreStored t ns.by_surface.items ns.backpointers.items ns.heads.items
 
+-- the nodes that `ns` stores
 abbrev pub stored_nodes : SearchedText → Nodes → List Node
 stored_nodes t ns = nodes_in t ns.by_surface.items ns.backpointers.items
 

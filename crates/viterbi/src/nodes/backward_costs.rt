@@ -36,20 +36,20 @@ pub fn eos_cost<S: WordSource>(source: &S, word: &Word, last: usize) -> Option<C
 
 /// Returns the lesser of `least` and the cost of continuing with `word` after right id `right`.
 ///
-/// `rest` is the backward cost of `word`, or `None` if no path continues after it.
+/// `backward` is the backward cost of `word`, or `None` if no path continues after it.
 pub fn least_with<S: WordSource>(
     source: &S,
     least: Option<ChainCost>,
-    rest: &Option<ChainCost>,
+    backward: &Option<ChainCost>,
     right: u16,
     word: &Word,
 ) -> Option<ChainCost>
-    requires small { IsSmallIfSome rest.now }
+    requires small { IsSmallIfSome backward.now }
     requires pair { (S.searched_text source.now).is_pair right word.now.left }
-    ensures { IsLeastWith (S.searched_text source.now) least rest.now right word.now result }
+    ensures { IsLeastWith (S.searched_text source.now) least backward.now right word.now result }
 {
-    match rest {
-        Some(rest) => Some(lesser(least, with_word(source, rest, right, word))),
+    match backward {
+        Some(backward) => Some(lesser(least, with_word(source, backward, right, word))),
         None => least,
     }
 }

@@ -50,8 +50,8 @@ fn nodes_of(
     forward_costs: &[Option<ChainCost>],
     backward_costs: &[Option<ChainCost>],
 ) -> Result<Vec<LatticeNode>, AllocError>
-    requires totals_long { length forward_costs.now ≡ length words.now }
-    requires rests_long { length backward_costs.now ≡ length words.now }
+    requires forward_long { length forward_costs.now ≡ length words.now }
+    requires backward_long { length backward_costs.now ≡ length words.now }
     requires forward_costs { All IsSmallTotal forward_costs.now }
     requires backward_costs { All IsSmallIfSome backward_costs.now }
     ensures { IfOk result (λ nodes. AreNodes words.now forward_costs.now backward_costs.now
@@ -65,16 +65,16 @@ fn nodes_of(
     Ok(nodes)
 }
 
-/// Returns the node of `word` with forward cost `total` and backward cost `rest`.
-fn node_of(word: &Word, total: &ChainCost, rest: &Option<ChainCost>) -> LatticeNode
+/// Returns the node of `word` with forward cost `total` and backward cost `backward`.
+fn node_of(word: &Word, total: &ChainCost, backward: &Option<ChainCost>) -> LatticeNode
     requires total { IsSmall total.now }
-    requires backward_cost { IsSmallIfSome rest.now }
+    requires backward_cost { IsSmallIfSome backward.now }
     ensures word { result.word ≡ word.now }
     ensures total { result.total ≡ total.now.cost }
-    ensures through { result.through ≡ sum_of total.now rest.now }
+    ensures through { result.through ≡ sum_of total.now backward.now }
 {
-    let through = match rest {
-        Some(rest) => Some(total.cost + rest.cost),
+    let through = match backward {
+        Some(backward) => Some(total.cost + backward.cost),
         None => None,
     };
     LatticeNode {

@@ -23,7 +23,7 @@ pub fn mark_nodes_on_path(
     let mut on = Vec::new(alloc);
     let mut next = 0;
     for i in 0..nodes.len() {
-        next = first_at(path, next, nodes[i].word.place);
+        next = first_word_from(path, next, nodes[i].word.place);
         on.push(is_word_at(path, next, &nodes[i].word))?;
     }
     Ok(on)
@@ -33,7 +33,7 @@ pub fn mark_nodes_on_path(
 /// later.
 ///
 /// Returns the length of `path` if there is none.
-pub fn first_at(path: &[Word], from: usize, place: usize) -> usize
+pub fn first_word_from(path: &[Word], from: usize, place: usize) -> usize
     requires { from ≤ length path.now }
     ensures { IsFirstAt path.now from place result }
 {

@@ -34,7 +34,7 @@ impl ReachableWords {
     }
 
     /// Adds the words of position `place` if `marks[place]` is set: some chain reaches it. `cursor`
-    /// is the cursor of this search.
+    /// is the cursor of this search, and `surfaces` is a buffer.
     fn add_place<S: WordSource>(
         &mut self,
         source: &S,
@@ -53,8 +53,8 @@ impl ReachableWords {
             self.new.words.items self.new.firsts.items marks.new) }
     {
         self.firsts.push(self.words.len())?;
-        let is_predecessor = marks[place];
-        if !is_predecessor {
+        let is_reachable = marks[place];
+        if !is_reachable {
             return Ok(());
         }
         surfaces.clear();
@@ -77,9 +77,9 @@ pub fn reachable_words<S: WordSource>(
         words: Vec::new(alloc),
         firsts: Vec::new(alloc),
     };
-    let mut is_predecessor = Vec::new(alloc);
-    is_predecessor.resize(length + 1, false)?;
-    let marks = is_predecessor.as_mut_slice();
+    let mut reachable = Vec::new(alloc);
+    reachable.resize(length + 1, false)?;
+    let marks = reachable.as_mut_slice();
     marks[0] = true;
     let mut surfaces = Vec::new(alloc);
     let mut cursor = source.cursor();

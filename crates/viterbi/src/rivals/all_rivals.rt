@@ -7,7 +7,7 @@ ghost use Rattle.viterbi.specs.Rivals.AllRivals.{AreBestRivals, AreBetter};
 ghost use Rattle.viterbi.specs.Rivals.Rivals.{AreOfLattice};
 ghost use Rattle.viterbi.specs.declared.rivals.rival.Rival.{Rival as RivalOf};
 
-use crate::nodes::{LatticeNode, first_at};
+use crate::nodes::{LatticeNode, first_word_from};
 use crate::rivals::rival::{Rival, better};
 use mj_model::Word;
 use std::alloc::{AllocError, Global};
@@ -30,7 +30,7 @@ pub fn best_rivals(
     bests.resize(path.len(), None)?;
     let mut first = 0;
     for number in 0..nodes.len() {
-        first = first_at(path, first, nodes[number].word.place);
+        first = first_word_from(path, first, nodes[number].word.place);
         update_best_rivals(number, &nodes[number], path, first, &mut bests);
     }
     Ok(bests)

@@ -79,8 +79,8 @@ impl<'a, S: WordSource> NodesByPosition<'a, S> {
         }
     }
 
-    /// Returns for each node its successor on a path of least cost through it, or EOS if no path
-    /// contains it.
+    /// Returns for each node its successor on a path of least cost through it, or EOS if the path
+    /// ends with it or no path contains it.
     pub fn find_successors(&self, alloc: Global) -> Result<Vec<Neighbor>, AllocError>
         requires { ArePlaced (S.searched_text self.now.source.now)
             self.now.nodes.now self.now.firsts.now }

@@ -1,4 +1,4 @@
-//! Whether a node is the predecessor of another one on a chain of least cost.
+//! Tests whether a node is the predecessor of another one on a chain of least cost.
 
 ghost use Rattle.std.specs.Prelude.{◌≡◌};
 ghost use Rattle.viterbi.specs.Rivals.PredecessorSearch.{IsPredecessorFrom};
@@ -23,8 +23,8 @@ pub fn bos_neighbor<S: WordSource>(source: &S, node: &LatticeNode) -> Neighbor
     }
 }
 
-/// Returns node `number` as the predecessor of `next` if a chain of least cost leads through both;
-/// otherwise returns `link`, the predecessor so far.
+/// Returns `node`, which has number `number`, as the predecessor of `next` if a chain of least cost
+/// leads through both; otherwise returns `link`, the predecessor so far.
 pub fn update_predecessor<S: WordSource>(
     source: &S,
     number: usize,
@@ -45,7 +45,7 @@ pub fn update_predecessor<S: WordSource>(
 }
 
 /// Returns whether the forward cost of `next` is that of `node` plus the costs of the step to
-/// `next`.
+/// `next`. `link` has the connection cost of the step.
 fn is_predecessor(node: &LatticeNode, link: &Neighbor, next: &LatticeNode) -> bool
     requires { IsSmallNode node.now }
     ensures { IsPredecessorCost node.now link.now next.now result }

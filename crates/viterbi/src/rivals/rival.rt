@@ -16,7 +16,8 @@ pub struct Rival {
     pub cost: i64,
 }
 
-/// Returns the best rival of `word`: the node that replaces it at the least cost.
+/// Returns the best rival of `word` in a lattice: the node that replaces it at the least cost, or
+/// `None` if no path contains a node that replaces it.
 ///
 /// A node replaces `word` if it contains the position of `word` and has other boundaries. Of nodes
 /// with equal costs, the first is returned. Visits each node once.

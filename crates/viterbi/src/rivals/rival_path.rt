@@ -2,11 +2,11 @@
 
 use crate::rivals::step::PathStep;
 
-/// The number of words that are shown at most before the rival's word, and after it. The limit
+/// The greatest number of steps before the rival's word in a `RivalPath`, and after it. The limit
 /// keeps the time for all rivals of a line linear in its lattice. (This project's own choice.)
 pub const STEPS_MAX: usize = 32;
 
-/// The best path that segments a text differently than a word of the best path: the words in which
+/// The best path that segments a text differently at a word of the best path, by the words in which
 /// the two paths differ.
 #[derive(Debug, Drop)]
 pub struct RivalPath {

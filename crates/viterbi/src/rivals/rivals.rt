@@ -95,8 +95,8 @@ impl Rivals {
         &self.steps
     }
 
-    /// Returns the rival of word `number` of the best path, or `None` if no path segments the text
-    /// differently there.
+    /// Returns the rival of word `number` of the best path, counted from 0. Returns `None` if there
+    /// is no such word, or no path segments the text differently there.
     ///
     /// The time is at most linear in `STEPS_MAX`.
     pub fn rival(&self, alloc: Global, number: usize) -> Result<Option<RivalPath>, AllocError>

@@ -1,4 +1,4 @@
-//! Whether a node is the successor of another one on a path of least cost.
+//! Tests whether a node is the successor of another one on a path of least cost.
 
 ghost use Rattle.std.specs.Prelude.{◌≡◌};
 ghost use Rattle.viterbi.specs.Rivals.Successors.{IsFollower};
@@ -23,8 +23,8 @@ pub fn eos_neighbor<S: WordSource>(source: &S, node: &LatticeNode) -> Neighbor
     }
 }
 
-/// Returns node `number` as the successor of `node` if a path of least cost through `node` goes on
-/// to it.
+/// Returns `next`, which has number `number`, as the successor of `node` if a path of least cost
+/// through `node` continues with it.
 pub fn successor_to<S: WordSource>(
     source: &S,
     node: &LatticeNode,
@@ -36,20 +36,21 @@ pub fn successor_to<S: WordSource>(
     requires next { IsSmallNode next.now }
     ensures { IsFollower (S.searched_text source.now).connection node.now number next.now result }
 {
-    let rest = backward_cost_at(node)?;
+    let backward = backward_cost_at(node)?;
     let further = backward_cost_at(next)?;
     let link = neighbor_between(source, number, node, next);
-    if is_successor(&rest, &link, next, &further) {
+    if is_successor(&backward, &link, next, &further) {
         return Some(link);
     }
     None
 }
 
-/// Returns whether backward cost `rest` is `further` plus the costs of the step to `next`.
-fn is_successor(rest: &Total, link: &Neighbor, next: &LatticeNode, further: &Total) -> bool
+/// Returns whether the backward cost `backward` of a node is `further`, the backward cost of
+/// `next`, plus the costs of the step to `next`. `link` has the connection cost of the step.
+fn is_successor(backward: &Total, link: &Neighbor, next: &LatticeNode, further: &Total) -> bool
     requires { IsSmall further.now }
-    ensures { IsSuccessorCost rest.now link.now next.now further.now result }
+    ensures { IsSuccessorCost backward.now link.now next.now further.now result }
 {
     let step = next_step(further, link.connection, &next.word);
-    is_same(rest, &total_of(&step))
+    is_same(backward, &total_of(&step))
 }

@@ -7,7 +7,7 @@ ghost use Rattle.viterbi.specs.Search.Lattice.{IsBelow};
 ghost use Rattle.viterbi.specs.Search.SearchedText.{AreStoredIn, CanBeSearched, IsBestIn, IsLatticeTo, cost_of, stored_nodes};
 
 use crate::search::end_nodes::collect_end_nodes;
-use crate::search::node::{BOUNDARY_ID, Backpointer, EndNode, Predecessor, linked};
+use crate::search::node::{BOUNDARY_ID, Backpointer, EndNode, Predecessor, from_one_based};
 use crate::search::nodes::Nodes;
 use crate::search::predecessor::best_predecessor;
 use crate::search::source::WordSource;
@@ -34,7 +34,11 @@ pub fn backtrace_best<S: WordSource>(
         (best_words (S.searched_text source.now) nodes.new)) }
 {
     let found = last_predecessor(source, nodes, ends)?;
-    backtrace_numbers(&nodes.backpointers, linked(found.before), &mut nodes.heads)?;
+    backtrace_numbers(
+        &nodes.backpointers,
+        from_one_based(found.before),
+        &mut nodes.heads,
+    )?;
     Ok(found.cost)
 }
 
@@ -58,16 +62,16 @@ fn last_predecessor<S: WordSource>(
     Ok(best_predecessor(source, ends, BOUNDARY_ID))
 }
 
-/// The greatest place that has a head, or the beginning.
+/// Returns the greatest position at which a node ends, or 0.
 fn last_end_position(heads: &[usize]) -> usize
     ensures { IsLastHead heads.now result }
 {
-    let mut next_ones = heads.len();
-    while 1 < next_ones {
-        if 0 < heads[next_ones - 1] {
-            return next_ones - 1;
+    let mut end = heads.len();
+    while 1 < end {
+        if 0 < heads[end - 1] {
+            return end - 1;
         }
-        next_ones -= 1;
+        end -= 1;
     }
     0
 }

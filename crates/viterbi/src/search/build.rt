@@ -40,11 +40,12 @@ impl SearchBuffers {
     }
 }
 
-/// Builds the nodes of all words that some chain reaches, except those that are pruned.
+/// Fills `nodes` with the nodes of all words that some chain reaches, except those that are pruned.
+/// `buffers` are reused.
 pub fn build<S: WordSource>(
     source: &S,
     nodes: &mut Nodes,
-    room: &mut SearchBuffers,
+    buffers: &mut SearchBuffers,
 ) -> Result<(), AllocError>
     requires source { CanBeSearched (S.searched_text source.now) }
     ensures stored { OnOk result (AreStoredIn (S.searched_text source.now) nodes.new) }
@@ -60,7 +61,7 @@ pub fn build<S: WordSource>(
     let mut cursor = source.cursor();
     let mut place = next_reachable(source, nodes, 0);
     while place < length {
-        add_place(source, nodes, room, place, &mut cursor)?;
+        add_place(source, nodes, buffers, place, &mut cursor)?;
         place = next_reachable(source, nodes, place + 1);
     }
     Ok(())
@@ -93,11 +94,11 @@ fn next_reachable<S: WordSource>(source: &S, nodes: &Nodes, from: usize) -> usiz
 
 /// Adds the nodes of the words that start at position `place`, which some chain reaches.
 ///
-/// `cursor` is the cursor of this search.
+/// `buffers` are reused, and `cursor` is the cursor of this search.
 fn add_place<S: WordSource>(
     source: &S,
     nodes: &mut Nodes,
-    room: &mut SearchBuffers,
+    buffers: &mut SearchBuffers,
     place: usize,
     cursor: &mut S::Cursor,
 ) -> Result<(), AllocError>
@@ -114,21 +115,23 @@ fn add_place<S: WordSource>(
     ensures cursor { S.is_cursor source.now cursor.new }
     ensures scanned { S.is_scanned source.now place cursor.new }
 {
-    room.surfaces.clear();
-    source.surfaces_at(place, cursor, &mut room.surfaces)?;
-    collect_end_nodes(source, nodes, place, &mut room.ends)?;
-    room.end_pruning.prune_ends(&mut room.ends)?;
-    room.pruning.prune(source, &room.ends, &mut room.surfaces)?;
+    buffers.surfaces.clear();
+    source.surfaces_at(place, cursor, &mut buffers.surfaces)?;
+    collect_end_nodes(source, nodes, place, &mut buffers.ends)?;
+    buffers.end_pruning.prune_ends(&mut buffers.ends)?;
+    buffers
+        .pruning
+        .prune(source, &buffers.ends, &mut buffers.surfaces)?;
     let reached = StartPosition {
         start: place,
-        surfaces: &room.surfaces,
-        ends: &room.ends,
+        surfaces: &buffers.surfaces,
+        ends: &buffers.ends,
     };
     if reached.ends.len() <= LINEAR_SCAN_MAX {
         return reached.add_surfaces(source, nodes, &mut LinearScan);
     }
-    room.predecessors.clear();
-    reached.add_surfaces(source, nodes, &mut room.predecessors)
+    buffers.predecessors.clear();
+    reached.add_surfaces(source, nodes, &mut buffers.predecessors)
 }
 
 /// Returns whether some chain reaches position `place`, whose entry in `heads` is `head`.

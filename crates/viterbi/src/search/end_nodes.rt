@@ -5,7 +5,7 @@ ghost use Rattle.viterbi.specs.Search.EndNodes.{AreEndNodes, AreEndNodesOf};
 ghost use Rattle.viterbi.specs.Search.Nodes.{AreSurfaceNodes};
 ghost use Rattle.viterbi.specs.Search.SearchedText.{AreAllStored, AreStoredIn, AreRightsStored, stored_nodes, nodes_in};
 
-use crate::search::node::{BOUNDARY_ID, Backpointer, EndNode, SurfaceNodes, linked};
+use crate::search::node::{BOUNDARY_ID, Backpointer, EndNode, SurfaceNodes, from_one_based};
 use crate::search::nodes::Nodes;
 use crate::search::source::WordSource;
 use std::alloc::AllocError;
@@ -38,11 +38,11 @@ pub fn collect_end_nodes<S: WordSource>(
     }
     let by_surface = nodes.by_surface.as_slice();
     let backpointers = nodes.backpointers.as_slice();
-    let mut link = linked(nodes.heads[place]);
+    let mut link = from_one_based(nodes.heads[place]);
     while let Some(i) = link {
         let surface_nodes = &by_surface[i];
         append_end_nodes(source, by_surface, backpointers, surface_nodes, ends)?;
-        link = linked(surface_nodes.next);
+        link = from_one_based(surface_nodes.next);
     }
     Ok(())
 }

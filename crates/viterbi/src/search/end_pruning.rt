@@ -19,6 +19,7 @@ pub struct EndPruning {
     /// For each right id of an end node, the rank of the first end node of least forward cost that
     /// has it. Entries of other right ids may hold any number.
     ranks: Vec<usize>,
+    /// The end nodes that are left after pruning.
     left: Vec<EndNode>,
 }
 
@@ -67,19 +68,20 @@ fn record_rank(ends: &[EndNode], ranks: &mut Vec<usize>, rank: usize) -> Result<
 {
     let right = ends[rank].right;
     ensure_slot(ranks, right)?;
-    let noted = ranks[right];
-    if !is_not_costlier(ends, noted, rank) {
+    let recorded = ranks[right];
+    if !is_not_costlier(ends, recorded, rank) {
         ranks[right] = rank;
     }
     Ok(())
 }
 
-/// Returns whether the recorded end node precedes `ends[rank]`, has its right id and costs no more.
-fn is_not_costlier(ends: &[EndNode], noted: usize, rank: usize) -> bool
+/// Returns whether the end node with rank `recorded` precedes `ends[rank]`, has its right id and
+/// costs no more.
+fn is_not_costlier(ends: &[EndNode], recorded: usize, rank: usize) -> bool
     requires { rank < length ends.now }
-    ensures { IsTrue result ↔ IsNotCostlier ends.now noted rank }
+    ensures { IsTrue result ↔ IsNotCostlier ends.now recorded rank }
 {
-    noted < rank && is_as_good(&ends[noted], &ends[rank])
+    recorded < rank && is_as_good(&ends[recorded], &ends[rank])
 }
 
 /// Returns whether `end` has the right id of `other` and costs no more.

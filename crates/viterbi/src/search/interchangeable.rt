@@ -1,5 +1,5 @@
-//! Surfaces whose words differ from those of the next surface in their end alone, as those of
-//! unknown words that start at one position do.
+//! Surfaces whose words have the context ids and word costs of the words of the next surface. The
+//! surfaces of unknown words that start at one position are examples.
 
 ghost use Rattle.std.specs.Prelude.{◌<◌, IsTrue, length};
 ghost use Rattle.viterbi.specs.Search.Interchangeable.{MatchesNext};

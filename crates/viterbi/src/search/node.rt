@@ -53,12 +53,12 @@ impl Backpointer {
     pub fn link(&self) -> Option<usize>
         ensures { result ≡ link_of self.now.before }
     {
-        linked(self.before)
+        from_one_based(self.before)
     }
 }
 
 /// Returns `number`, which is counted from 1, as counted from 0; returns `None` for 0.
-pub fn linked(number: usize) -> Option<usize>
+pub fn from_one_based(number: usize) -> Option<usize>
     ensures { result ≡ link_of number }
 {
     number.checked_sub(1)

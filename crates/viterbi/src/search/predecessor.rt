@@ -25,12 +25,12 @@ pub trait FindPredecessor {
     /// `left`.
     fn predecessor<S: WordSource>(&mut self, source: &S, ends: &[EndNode], left: u16) -> Choice
         requires some { 0 < length ends.now }
-        requires totals { All HasSmallTotal ends.now }
+        requires forward_costs { All HasSmallTotal ends.now }
         requires pairs { All (IsFollowedBy (S.searched_text source.now).is_pair left) ends.now }
-        requires stored { is_of self.old (S.searched_text source.now).connection ends.now }
+        requires cached { is_of self.old (S.searched_text source.now).connection ends.now }
         ensures predecessor { IfOk result
             (IsLeast (S.searched_text source.now).connection ends.now left) }
-        ensures stored { OnOk result
+        ensures cached { OnOk result
             (is_of self.new (S.searched_text source.now).connection ends.now) };
 }
 
@@ -69,7 +69,7 @@ impl FindPredecessor for PredecessorCache {
 /// processor would often mispredict it.
 pub fn best_predecessor<S: WordSource>(source: &S, ends: &[EndNode], left: u16) -> Predecessor
     requires some { 0 < length ends.now }
-    requires totals { All HasSmallTotal ends.now }
+    requires forward_costs { All HasSmallTotal ends.now }
     requires pairs { All (IsFollowedBy (S.searched_text source.now).is_pair left) ends.now }
     ensures { IsLeast (S.searched_text source.now).connection ends.now left result }
 {

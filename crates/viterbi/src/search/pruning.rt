@@ -33,7 +33,7 @@ pub struct Pruning {
     predecessors: PredecessorCache,
     end_pruning: EndPruning,
     /// The words of a surface as end nodes: `total` is the forward cost of a word, and `before` its
-    /// number in the surface.
+    /// number in the surface, counted from 0.
     words: Vec<EndNode>,
     kept: Vec<Surface>,
 }
@@ -103,7 +103,7 @@ impl Pruning {
             self.old.predecessors }
         ensures predecessors { OnOk result
             (AreLeast (S.searched_text source.now).connection ends.now self.new.predecessors) }
-        ensures stored { OnOk result (GrowsBy (ArePrunedOf (S.searched_text source.now) ends.now
+        ensures appended { OnOk result (GrowsBy (ArePrunedOf (S.searched_text source.now) ends.now
             ((S.searched_text source.now).surface_words surface.now))
             self.old.kept.items self.new.kept.items) }
     {

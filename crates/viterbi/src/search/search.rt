@@ -21,7 +21,7 @@ use std::mem;
 #[derive(Debug, Drop)]
 pub struct Search {
     nodes: Nodes,
-    room: SearchBuffers,
+    buffers: SearchBuffers,
     /// Receives the words of the best path before `fill` swaps them into the caller's path.
     best: Vec<Word>,
 }
@@ -38,7 +38,7 @@ impl Search {
     pub fn new(alloc: Global) -> Search {
         Search {
             nodes: Nodes::new(alloc),
-            room: SearchBuffers::new(alloc),
+            buffers: SearchBuffers::new(alloc),
             best: Vec::new(alloc),
         }
     }
@@ -55,7 +55,7 @@ impl Search {
         ensures total { IfOk result (λ found.
             found.total ≡ cost_of (S.searched_text source.now) found.words) }
     {
-        find_in(source, &mut self.nodes, &mut self.room)
+        find_in(source, &mut self.nodes, &mut self.buffers)
     }
 
     /// Sets `path` to the best path of the text of `source`. The memory of `path` and of this
@@ -71,7 +71,7 @@ impl Search {
         ensures words_unchanged { OnErr result (path.new.words.items ≡ path.old.words.items) }
         ensures total_unchanged { OnErr result (path.new.total ≡ path.old.total) }
     {
-        let found = find_in(source, &mut self.nodes, &mut self.room)?;
+        let found = find_in(source, &mut self.nodes, &mut self.buffers)?;
         let total = found.total;
         read_all(found.words, &mut self.best)?;
         mem::swap(&mut path.words, &mut self.best);
@@ -84,15 +84,15 @@ impl Search {
 fn find_in<'a, S: WordSource>(
     source: &'a S,
     nodes: &'a mut Nodes,
-    room: &mut SearchBuffers,
+    buffers: &mut SearchBuffers,
 ) -> Result<BestPath<'a, S>, AllocError>
     requires { CanBeSearched (S.searched_text source.now) }
     ensures best { IfOk result (λ found. IsBestIn (S.searched_text source.now) found.words) }
     ensures total { IfOk result
         (λ found. found.total ≡ cost_of (S.searched_text source.now) found.words) }
 {
-    build(source, nodes, room)?;
-    let total = backtrace_best(source, nodes, &mut room.ends)?;
+    build(source, nodes, buffers)?;
+    let total = backtrace_best(source, nodes, &mut buffers.ends)?;
     Ok(BestPath {
         words: BestWords::new(source, nodes),
         total,

@@ -46,7 +46,8 @@ pub trait WordSource {
 
     /// Appends the words that start at position `place` to `out`, grouped by surface.
     ///
-    /// `cursor` is the cursor of this search. Positions may come in any order.
+    /// `cursor` is the cursor of this search. Positions may come in any order. On an allocation
+    /// failure `out` is unchanged.
     fn surfaces_at(
         &self,
         place: usize,
@@ -57,7 +58,7 @@ pub trait WordSource {
         requires cursor { is_cursor self.now cursor.old }
         ensures appended { OnOk result
             (GrowsBy (AreSurfacesAt (searched_text self.now) place) out.old.items out.new.items) }
-        ensures stored { OnErr result (out.new.items ≡ out.old.items) }
+        ensures unchanged { OnErr result (out.new.items ≡ out.old.items) }
         ensures cursor { is_cursor self.now cursor.new }
         ensures scanned { is_scanned self.now place cursor.new };
 

@@ -24,16 +24,16 @@ pub struct StartPosition<'a> {
 impl StartPosition<'_> {
     /// Adds the nodes of all words that start here, the last word first, each with its best
     /// predecessor.
-    pub fn add_surfaces<S: WordSource, J: FindPredecessor>(
+    pub fn add_surfaces<S: WordSource, F: FindPredecessor>(
         &self,
         source: &S,
         nodes: &mut Nodes,
-        predecessors: &mut J,
+        predecessors: &mut F,
     ) -> Result<(), AllocError>
         requires stored { AreStoredIn (S.searched_text source.now) nodes.old }
         requires none_added { AreAddedIn (S.searched_text source.now) self.now
             (length self.now.surfaces.now) nodes.old }
-        requires predecessors { J.is_of predecessors.old (S.searched_text source.now).connection
+        requires predecessors { F.is_of predecessors.old (S.searched_text source.now).connection
             self.now.ends.now }
         ensures stored { OnOk result (AreStoredIn (S.searched_text source.now) nodes.new) }
         ensures lattice { OnOk result (IsLatticeTo (S.searched_text source.now)
@@ -48,19 +48,19 @@ impl StartPosition<'_> {
     }
 
     /// Adds the nodes of the words of surface `number`, the last word first.
-    fn add_surface<S: WordSource, J: FindPredecessor>(
+    fn add_surface<S: WordSource, F: FindPredecessor>(
         &self,
         source: &S,
         nodes: &mut Nodes,
         number: usize,
-        predecessors: &mut J,
+        predecessors: &mut F,
     ) -> Result<(), AllocError>
         requires number { number < length self.now.surfaces.now }
-        requires next_ones { EndsWithAny (S.searched_text source.now)
+        requires previous { EndsWithAny (S.searched_text source.now)
             self.now.surfaces.now (number + 1) nodes.old.by_surface.items }
         requires stored { AreStoredIn (S.searched_text source.now) nodes.old }
         requires added { AreAddedIn (S.searched_text source.now) self.now (number + 1) nodes.old }
-        requires predecessors { J.is_of predecessors.old (S.searched_text source.now).connection
+        requires predecessors { F.is_of predecessors.old (S.searched_text source.now).connection
             self.now.ends.now }
         ensures following { OnOk result
             (EndsWith (S.searched_text source.now) self.now.surfaces.now number
@@ -69,7 +69,7 @@ impl StartPosition<'_> {
         ensures added { OnOk result
             (AreAddedIn (S.searched_text source.now) self.now number nodes.new) }
         ensures predecessors { OnOk result
-            (J.is_of predecessors.new (S.searched_text source.now).connection self.now.ends.now) }
+            (F.is_of predecessors.new (S.searched_text source.now).connection self.now.ends.now) }
     {
         let surface = self.surfaces[number];
         let surface_nodes = SurfaceNodes {
@@ -93,13 +93,13 @@ impl StartPosition<'_> {
     ///
     /// If the words are interchangeable with those of the next surface, their backpointers are
     /// copied.
-    fn add_words<S: WordSource, J: FindPredecessor>(
+    fn add_words<S: WordSource, F: FindPredecessor>(
         &self,
         source: &S,
         by_surface: &[SurfaceNodes],
         backpointers: &mut Vec<Backpointer>,
         number: usize,
-        predecessors: &mut J,
+        predecessors: &mut F,
     ) -> Result<(), AllocError>
         requires number { number < length self.now.surfaces.now }
         requires last { EndsWith (S.searched_text source.now)
@@ -108,12 +108,12 @@ impl StartPosition<'_> {
             by_surface.now }
         requires added { AreKeptFrom (S.searched_text source.now) self.now number
             (word_count self.now.surfaces.now number) by_surface.now backpointers.old.items }
-        requires predecessors { J.is_of predecessors.old (S.searched_text source.now).connection
+        requires predecessors { F.is_of predecessors.old (S.searched_text source.now).connection
             self.now.ends.now }
         ensures added { OnOk result (AreKeptFrom (S.searched_text source.now) self.now number
             0 by_surface.now backpointers.new.items) }
         ensures predecessors { OnOk result
-            (J.is_of predecessors.new (S.searched_text source.now).connection self.now.ends.now) }
+            (F.is_of predecessors.new (S.searched_text source.now).connection self.now.ends.now) }
     {
         let surface = &self.surfaces[number];
         if self.matches_next(source, number) {

@@ -2,7 +2,7 @@ use Rattle.std.proofs.Common.{rules}
 use Rattle.std.specs.Prelude.{IfErr}
 use Rattle.line_segmenter.specs.Faults.{IsLineError}
 use Rattle.capi.specs.Handles.{IsCallError, segmenter_in}
-use Rattle.capi.proofs.PlaceLemmas.{line_placed, tells_placed}
+use Rattle.capi.proofs.PlaceLemmas.{line_placed, reports_placed}
 use Rattle.capi.proofs.exports.kumquatsieve_segment.Goals as goal
 
 pub returns : goal.returns
@@ -15,7 +15,7 @@ returns c =
     record {
       accepted = search rules;
       done = search rules;
-      rejected = tells_placed old line IsLineError before at (line_placed line before at) c.call-answer.result c.result_with_size.result c.result_with_size.ensures.code rejected c.result_with_size.ensures.place;
+      rejected = reports_placed old line IsLineError before at (line_placed line before at) c.call-answer.result c.result_with_size.result c.result_with_size.ensures.code rejected c.result_with_size.ensures.place;
       kept = search rules;
       size_unset = search rules;
       at_unset = search rules;

@@ -2,7 +2,7 @@ use Rattle.std.proofs.Common.{rules}
 use Rattle.std.specs.Prelude.{IfErr}
 use Rattle.line_segmenter.specs.Faults.{IsTextError}
 use Rattle.capi.specs.Handles.{IsCallError, segmenter_in}
-use Rattle.capi.proofs.PlaceLemmas.{text_placed, tells_placed}
+use Rattle.capi.proofs.PlaceLemmas.{text_placed, reports_placed}
 use Rattle.capi.proofs.exports.kumquatsieve_segment_whole.Goals as goal
 
 pub returns : goal.returns
@@ -15,7 +15,7 @@ returns c =
     record {
       accepted = search rules;
       done = search rules;
-      rejected = tells_placed old text IsTextError before at (text_placed text before at) c.call-answer.result c.result_with_size.result c.result_with_size.ensures.code rejected c.result_with_size.ensures.place;
+      rejected = reports_placed old text IsTextError before at (text_placed text before at) c.call-answer.result c.result_with_size.result c.result_with_size.ensures.code rejected c.result_with_size.ensures.place;
       kept = search rules;
       size_unset = search rules;
       at_unset = search rules;

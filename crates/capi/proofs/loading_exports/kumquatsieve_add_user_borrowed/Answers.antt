@@ -7,7 +7,7 @@ use Rattle.capi.specs.Calls.{IsUserFault}
 use Rattle.capi.specs.Handles.{IsCallError, segmenter_in}
 use Rattle.capi.specs.declared.fault.CallFault.{CallFault}
 use Rattle.capi.specs.declared.fault.CallFault.TheVariants.{Segment}
-use Rattle.capi.proofs.CodeLemmas.{user_starved}
+use Rattle.capi.proofs.CodeLemmas.{user_out_of_memory}
 use Rattle.capi.proofs.loading_exports.kumquatsieve_add_user_borrowed.Goals as goal
 
 pub returns-clause-out_of_memory : goal.returns-clause-out_of_memory
@@ -18,5 +18,5 @@ returns-clause-out_of_memory c = λ reported.
     let answer = c.call-answer.result in
     let rejected : IfErr answer (IsCallError old (IsUserFault digest image)) = search rules in
     let starved : IfErr answer (λ (fault : CallFault). fault ≡ Segment Memory → PassesTestsBeforeKeys digest image) = search rules in
-    let passed = user_starved digest image old answer c.result_with_number.result c.result_with_number.ensures.code rejected starved reported in
+    let passed = user_out_of_memory digest image old answer c.result_with_number.result c.result_with_number.ensures.code rejected starved reported in
     subst (λ (d : DigestTest). PassesTestsBeforeKeys d c.args.image.bytes) c.skipped_if-digest.ensures (subst (λ (bytes : List ℕ). PassesTestsBeforeKeys digest bytes) (c.borrowed-image.ensures ∙ c.of.ensures) passed)

@@ -4,7 +4,7 @@ use Rattle.std.proofs.lemmas.Int.{to_z-of_z}
 use mir.Val.{SFits}
 use Rattle.capi.specs.Words.{c_word_in, c_words}
 use Rattle.capi.proofs.FillLemmas.{filling_ends, filling_more}
-use Rattle.capi.proofs.WalkLemmas.{can_follow, length-c_words, stands_here, told_here, told_word, walked_on}
+use Rattle.capi.proofs.WalkLemmas.{can_follow, length-c_words, appears_here, reported_here, reported_word, walked_on}
 use Rattle.out_format.proofs.PrintedLemmas.{no_word}
 use Rattle.word_lookup.specs.Overlays.{overlay_of}
 use Rattle.capi.proofs.words.fill.Goals as goal
@@ -29,7 +29,7 @@ category-requires c =
     let o = overlay_of l.dictionaries in
     let words = c.args.words.now in
     let low : c.loop-i.i < length words = search rules in
-    (stands_here o l.text.now words (c_words o l.text.now c.args.before words) c.loop-i.i c.loop-i.reached no_word low c.loop-i.invariant.walked).begins
+    (appears_here o l.text.now words (c_words o l.text.now c.args.before words) c.loop-i.i c.loop-i.reached no_word low c.loop-i.invariant.walked).begins
 
 pub loop-i-preserved : goal.loop-i-preserved
 loop-i-preserved c =
@@ -47,11 +47,11 @@ loop-i-preserved c =
     let w = get_or words i no_word in
     let fits : SFits w64 next.total = search rules in
     let feature = c.feature-feature.result.now in
-    let stored = told_word o text w (to_z w64 (of_z w64 next.total)) c.category.result (length feature) feature c.word_for_c.result c.word_for_c.ensures c.category.ensures refl c.feature-feature.ensures in
+    let stored = reported_word o text w (to_z w64 (of_z w64 next.total)) c.category.result (length feature) feature c.word_for_c.result c.word_for_c.ensures c.category.ensures refl c.feature-feature.ensures in
     let reported = stored ∙ ap (λ (z : ℤ). c_word_in o text z w) (to_z-of_z w64 next.total fits) in
     record {
       filling = filling_more all i c.args.out.now c.loop-i.out c.word_for_c.result c.loop-i.invariant.filling (omega (arith, low, many)) room
-          (reported ∙ sym (told_here o text words all i c.loop-i.reached no_word low walked next c.word_for_c.result c.path_end_after-reached.ensures));
+          (reported ∙ sym (reported_here o text words all i c.loop-i.reached no_word low walked next c.word_for_c.result c.path_end_after-reached.ensures));
       walked = walked_on o text words all i c.loop-i.reached no_word low walked next c.path_end_after-reached.ensures;
     }
 

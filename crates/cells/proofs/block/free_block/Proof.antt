@@ -39,7 +39,7 @@ use Rattle.std_alloc.proofs.VecSteps.El.{El, R, elτ, sz}
 use Rattle.std_alloc.proofs.vec.Blocks.{el, all}
 use Rattle.std_alloc.proofs.vec.Spares.{Row, Into, at_into, Into-goes, Into-gives}
 use Rattle.std.proofs.raw_atomic.Walks.{proved_at, leaves}
-use Rattle.cells.proofs.TokenSteps.{token_val, mark_told}
+use Rattle.cells.proofs.TokenSteps.{token_val, mark_reported}
 use Rattle.cells.specs.contracts.token.FreeToken as free_token
 use Rattle.cells.specs.contracts.block.free_block.{ended, clauses}
 use Rattle.cells.specs.contracts.block.free_block.Key.{name as #self}
@@ -89,7 +89,7 @@ free_block_spec 𝓤 𝓛 𝓜 𝓡 wired T A LT LA g d dd met md =
     let typed : WT (row_val b o n) = (tt, (record { fits = fits }, tt)) in
     let w = at_into E 𝓛 𝓜.mem 𝓡.returns κT qT r b o in
     let y = at_gives Z 𝓛 𝓜.mem 𝓡.returns κ q handle heap b o (n * size) al τ in
-    regoal ! (λ (us : List Val). prop (WpFn 𝓤 H C Λ fn us Post)) (λ i. are.0.0 i ++ (words i ++ (mark_told vss.1.1.0 are.1.1.0.0 i ++ []))) refl $
+    regoal ! (λ (us : List Val). prop (WpFn 𝓤 H C Λ fn us Post)) (λ i. are.0.0 i ++ (words i ++ (mark_reported vss.1.1.0 are.1.1.0.0 i ++ []))) refl $
     enter ! C Λ fn (vptr handle.0 handle.1 ∷ row_val b o n ∷ token_val ∷ []) Post $
     alloc_all ! (λ l. pass_all ! refl ((tt, tt), ((tt, typed), ((tt, (tt, tt)), tt))) $
     let En : Env 𝓤 H = env fn.locals l in

@@ -7,14 +7,14 @@ use Rattle.char_def.specs.CharLines.{all_range_categories, mappings_are}
 use Rattle.char_def.specs.declared.definitions.Definition.{Definition}
 use Rattle.char_def.specs.Definitions.{definition_is, definitions_are}
 use Rattle.char_def.proofs.AcceptedChars.{table_formed}
-use Rattle.char_def.proofs.TableLemmas.{mapping_refused, table_read}
+use Rattle.char_def.proofs.TableLemmas.{mapping_rejected, table_read}
 use Rattle.char_def.proofs.char_table.read_chars.Goals as goal
 
 pub returns-in_err-mapped-clause-rejected : goal.returns-in_err-mapped-clause-rejected
 returns-in_err-mapped-clause-rejected c =
     let p = err_from_is_err_and c.from_residual-in_err-mapped.result c.from_residual-in_err-mapped.ensures.1 in
     rw (p.1, p.2)
-    (mapping_refused (numbered_lines c.args.bytes.now) (definitions_are c.in_ok-definitions.field-0.definitions.items) (mappings_are c.in_ok-definitions.field-0.mappings.items) c.in_err-mapped.field-0.0
+    (mapping_rejected (numbered_lines c.args.bytes.now) (definitions_are c.in_ok-definitions.field-0.definitions.items) (mappings_are c.in_ok-definitions.field-0.mappings.items) c.in_err-mapped.field-0.0
     c.in_ok-definitions.ensures.accepted c.in_ok-definitions.ensures.categories
     (rw c.deref.ensures.value at c.in_ok-default.ensures.0) (rw c.deref-2.ensures.value at c.in_ok-set_of_one.ensures.0) c.in_ok-definitions.ensures.mappings
     (rw c.deref-3.ensures.value at c.in_err-mapped.ensures.rejected))

@@ -2,7 +2,7 @@ use Rattle.std.proofs.Common.{ℕ, ◌++◌, ◌∷◌, [], List, sym, subst, �
 use Rattle.mj_model.specs.declared.matrix_sizes.MatrixSizes.{MatrixSizes}
 use Rattle.mj_model.specs.Lexicon.{rows_of}
 use Rattle.char_def.specs.Outside.{lines_outside, IsLeastOf}
-use Rattle.char_def.proofs.OutsideLemmas.{outside_more, inside_more, all_looked_at}
+use Rattle.char_def.proofs.OutsideLemmas.{outside_more, inside_more, all_scanned}
 use Rattle.char_def.proofs.outside.least_line_outside.Goals as goal
 use Rattle.char_def.proofs.outside.least_line_outside.Goals.{then-is_outside, else-is_outside}
 
@@ -21,4 +21,4 @@ loop-record-preserved c = λ before h.
 
 pub returns : goal.returns
 returns c = λ before h.
-    all_looked_at c.args.sizes before c.args.records.now c.loop-record.record-index c.loop-record.least c.loop-record-test.false (c.loop-record.invariant before h)
+    all_scanned c.args.sizes before c.args.records.now c.loop-record.record-index c.loop-record.least c.loop-record-test.false (c.loop-record.invariant before h)

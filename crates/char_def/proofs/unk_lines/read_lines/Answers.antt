@@ -1,5 +1,5 @@
 use Rattle.std.proofs.Common.{◌∙◌}
-use Rattle.char_def.proofs.UnkLemmas.{unk_begun, as_many, unk_more, unk_refused, unk_read}
+use Rattle.char_def.proofs.UnkLemmas.{unk_started, as_many, unk_more, unk_rejected, unk_read}
 use Rattle.char_def.proofs.unk_lines.read_lines.Goals as goal
 
 pub loop-number-init : goal.loop-number-init
@@ -7,7 +7,7 @@ loop-number-init c = record {
   can = tt;
   finite = tt;
   count = as_many c.args.table.now.categories c.count.result c.in_ok-lists.lists.items c.in_ok-lists.ensures c.count.ensures.count;
-  read = unk_begun c.args.table.now.categories c.args.bytes.now _ c.count.result c.in_ok-lists.lists.items (c.into_iter-number-iterator.ensures.into_iter_gives ∙ c.lines-number-items.ensures) c.in_ok-lists.ensures c.count.ensures.count;
+  read = unk_started c.args.table.now.categories c.args.bytes.now _ c.count.result c.in_ok-lists.lists.items (c.into_iter-number-iterator.ensures.into_iter_gives ∙ c.lines-number-items.ensures) c.in_ok-lists.ensures c.count.ensures.count;
 }
 
 pub loop-number-preserved : goal.loop-number-preserved
@@ -21,7 +21,7 @@ loop-number-preserved c = record {
 pub returns-in-Err-clause-rejected : goal.returns-in-Err-clause-rejected
 returns-in-Err-clause-rejected c =
     rw c.at.ensures
-    (unk_refused c.args.table.now.categories c.args.bytes.now _ _ c.in-Some.number c.in-Some.line.now c.loop-number.held c.in-Err.kind _ c.loop-number.invariant.read c.in-Some.ensures.steps c.in-Err.ensures.rejected)
+    (unk_rejected c.args.table.now.categories c.args.bytes.now _ _ c.in-Some.number c.in-Some.line.now c.loop-number.held c.in-Err.kind _ c.loop-number.invariant.read c.in-Some.ensures.steps c.in-Err.ensures.rejected)
 
 pub returns-clause-accepted : goal.returns-clause-accepted
 returns-clause-accepted c = unk_read c.args.table.now.categories c.args.bytes.now _ c.loop-number.held c.loop-number.lists.items c.loop-number.invariant.read c.in-None.ensures.steps.0

@@ -7,18 +7,18 @@ use Rattle.mj_model.specs.declared.entry.Record.{Record}
 use Rattle.mj_model.specs.Lexicon.{rows_of}
 use Rattle.char_def.specs.UnkRows.{lists_are}
 use Rattle.char_def.proofs.AcceptedUnk.{lists_formed}
-use Rattle.char_def.proofs.UnkLemmas.{refused_whole, missing_refused, none_missing}
+use Rattle.char_def.proofs.UnkLemmas.{rejected_whole, missing_rejected, none_missing}
 use Rattle.char_def.proofs.unk_table.read_unk.Goals as goal
 
 pub returns-in_err-lists-clause-rejected : goal.returns-in_err-lists-clause-rejected
 returns-in_err-lists-clause-rejected c =
     let p = err_from_is_err_and c.from_residual.result c.from_residual.ensures.1 in
-    rw (p.1, p.2) (refused_whole c.args.table.now.categories c.args.bytes.now c.in_err-lists.field-0.0 c.in_err-lists.ensures.rejected)
+    rw (p.1, p.2) (rejected_whole c.args.table.now.categories c.args.bytes.now c.in_err-lists.field-0.0 c.in_err-lists.ensures.rejected)
 
 pub returns-then-missing-len-clause-rejected : goal.returns-then-missing-len-clause-rejected
 returns-then-missing-len-clause-rejected c =
     rw c.at.ensures
-    (inr (missing_refused c.args.table.now.categories c.args.bytes.now c.in_ok-lists.lists.items c.first_empty-missing.result c.in_ok-lists.ensures.accepted
+    (inr (missing_rejected c.args.table.now.categories c.args.bytes.now c.in_ok-lists.lists.items c.first_empty-missing.result c.in_ok-lists.ensures.accepted
     (rw c.deref.ensures.value at c.first_empty-missing.ensures.first) (omega (arith, c.in_ok-lists.lists.ok, c.len.ensures, c.if-missing-len.true))))
 
 pub invariant_of-result : goal.invariant_of-result

@@ -9,16 +9,16 @@ use Rattle.dict_compile.specs.Steps.{AreSteps}
 use Rattle.dict_compile.specs.declared.watch.CompileStep.{CompileStep}
 use Rattle.dict_compile.specs.declared.watch.CompileStep.TheVariants.{Sorted}
 use Rattle.dict_compile.proofs.StepLemmas.{all_steps}
-use Rattle.dict_compile.proofs.CompilationLemmas.{is_compilation, refusal, source_refused}
+use Rattle.dict_compile.proofs.CompilationLemmas.{is_compilation, compile_error, source_rejected}
 use Rattle.dict_compile.proofs.EveryKey.{keys_of_sources}
-use Rattle.dict_compile.proofs.FirstFaults.{refused_for, told_for}
+use Rattle.dict_compile.proofs.FirstFaults.{rejected_for, reported_for}
 use Rattle.dict_compile.proofs.compilation.compile_watched.Goals as goal
 
 pub returns-in_err-parts-clause-first : goal.returns-in_err-parts-clause-first
 returns-in_err-parts-clause-first g c = λ fault h.
     let p = err_from_is_err_and c.from_residual.result c.from_residual.ensures.1 in
     rw (p.1, p.2)
-    (told_for c.args.sources.now fault c.in_err-parts.field-0.0 h (source_refused c.args.sources.now c.in_err-parts.field-0.0 c.in_err-parts.ensures.rejected))
+    (reported_for c.args.sources.now fault c.in_err-parts.field-0.0 h (source_rejected c.args.sources.now c.in_err-parts.field-0.0 c.in_err-parts.ensures.rejected))
 
 pub returns-clause-compiled : goal.returns-clause-compiled
 returns-clause-compiled g c =
@@ -40,18 +40,18 @@ returns-clause-rejected g c =
     let s = c.args.sources.now in
     let parts = c.in_ok-parts.parts in
     IfErr-weaker c.system_image.result (IsImageError parts) (λ fault. IsMemoryOr fault (IsCompilationCause s fault))
-    (λ fault h. refusal s parts fault c.in_ok-parts.ensures.accepted c.in_ok-parts.ensures.fitting h) c.system_image.ensures.rejected
+    (λ fault h. compile_error s parts fault c.in_ok-parts.ensures.accepted c.in_ok-parts.ensures.fitting h) c.system_image.ensures.rejected
 
 pub returns-clause-first : goal.returns-clause-first
 returns-clause-first g c = λ fault h.
-    refused_for c.args.sources.now c.in_ok-parts.parts fault c.system_image.result c.in_ok-parts.ensures.accepted c.in_ok-parts.ensures.fitting h
+    rejected_for c.args.sources.now c.in_ok-parts.parts fault c.system_image.result c.in_ok-parts.ensures.accepted c.in_ok-parts.ensures.fitting h
     c.system_image.ensures.image c.system_image.ensures.rejected
 
 pub returns-clause-steps : goal.returns-clause-steps
-returns-clause-steps g c = λ before told.
+returns-clause-steps g c = λ before reported.
     let parts = c.in_ok-parts.parts in
     let sorted : List CompileStep = Sorted (length parts.lexicon.rows) ∷ [] in
-    let read = c.in_ok-parts.ensures.steps before told in
+    let read = c.in_ok-parts.ensures.steps before reported in
     let W = g.W.Watch.reported c.system_image.new.watch in
     IfOk-weaker c.system_image.result (λ _. W ((before ++ read.0) ++ sorted)) (λ _. (steps : List CompileStep) × AreSteps c.args.sources.now steps × W (before ++ steps))
     (λ _ all. (read.0 ++ sorted, all_steps c.args.sources.now parts read.0 c.in_ok-parts.ensures.accepted read.1, subst W (append_assoc before read.0 sorted) all))

@@ -19,7 +19,7 @@ loop-bytes-init g c = (
   λ more read h. subst (λ (rows : List Row). AreLexicons c.args.sizes 3 rows more read) (ap (λ (l : LexiconRows). l.rows) c.new-lexicon.ensures) h,
   skips_none,
   omega arith,
-  λ before told. ([], steps_none c.args.sizes, subst (g.W.Watch.reported c.args.watch.now) (sym (append-nil before)) told),
+  λ before reported. ([], steps_none c.args.sizes, subst (g.W.Watch.reported c.args.watch.now) (sym (append-nil before)) reported),
 )
 
 pub loop-bytes-preserved : goal.loop-bytes-preserved
@@ -35,8 +35,8 @@ loop-bytes-preserved g c =
       subst (SkipLines (bytes_before lexicons (i + 1))) (sym c.with_more-skipped.ensures.sum) (added_skips c.loop-bytes.file lexicons i _ c.loop-bytes-test.true c.loop-bytes.lexicon c.add.new.self
           c.loop-bytes.skipped _ c.loop-bytes.invariant.2 adds),
       omega (arith, c.loop-bytes.invariant.3, c.with_more-skipped.ensures.bound),
-      λ before told.
-          let was = c.loop-bytes.invariant.4 before told in (
+      λ before reported.
+          let was = c.loop-bytes.invariant.4 before reported in (
             was.0 ++ step ∷ [],
             subst (λ (n : ℕ). AreLexiconSteps sizes (bytes_before lexicons (i + 1)) (was.0 ++ LexiconRead n ∷ [])) (sym c.len.ensures)
                 (steps_more sizes c.loop-bytes.file lexicons i _ c.loop-bytes-test.true c.loop-bytes.lexicon
@@ -61,8 +61,8 @@ pub returns-clause-skipped : goal.returns-clause-skipped
 returns-clause-skipped g c = skips_end c.args.lexicons.now c.loop-bytes.bytes-index c.loop-bytes.skipped c.loop-bytes-test.false c.loop-bytes.invariant.2
 
 pub returns-clause-steps : goal.returns-clause-steps
-returns-clause-steps g c = λ before told.
-    let was = c.loop-bytes.invariant.4 before told in (
+returns-clause-steps g c = λ before reported.
+    let was = c.loop-bytes.invariant.4 before reported in (
       was.0,
       subst (λ ls. AreLexiconSteps c.args.sizes ls was.0) (all_before c.args.lexicons.now c.loop-bytes.bytes-index c.loop-bytes-test.false) was.1,
       was.2,

@@ -6,7 +6,7 @@ use Rattle.mj_model.specs.declared.matrix_sizes.MatrixSizes.{MatrixSizes}
 use Rattle.dict_compile.specs.Results.{lexicons_of}
 use Rattle.dict_compile.specs.Steps.{AreLexiconSteps, steps_before}
 use Rattle.dict_compile.specs.declared.watch.CompileStep.TheVariants.{MatrixRead, CategoriesRead, UnknownRead}
-use Rattle.dict_compile.proofs.StepLemmas.{behind_three}
+use Rattle.dict_compile.proofs.StepLemmas.{after_three}
 use Rattle.dict_compile.proofs.SourceLemmas.{chars_at_fault, unknown_at_fault, unknown_read, lexicons_at_fault, rows_read}
 use Rattle.dict_compile.proofs.parts.read_others.Goals as goal
 
@@ -51,10 +51,10 @@ returns-clause-accepted g c = λ costs table.
     }
 
 pub returns-clause-steps : goal.returns-clause-steps
-returns-clause-steps g c = λ before told.
+returns-clause-steps g c = λ before reported.
     let sizes = c.sizes-sizes.result in
     let count = c.count.result in
-    let first = c.done.ensures before told in
+    let first = c.done.ensures before reported in
     let second = c.done-2.ensures (before ++ MatrixRead sizes ∷ []) first in
     let third = c.done-3.ensures ((before ++ MatrixRead sizes ∷ []) ++ CategoriesRead count ∷ []) second in
     let rest = c.in_ok-lexicons.ensures.steps (((before ++ MatrixRead sizes ∷ []) ++ CategoriesRead count ∷ []) ++ UnknownRead ∷ []) third in (
@@ -66,5 +66,5 @@ returns-clause-steps g c = λ before told.
             ap (λ (s : MatrixSizes). steps_before s count ++ rest.0) c.sizes-sizes.ensures.sizes
             ∙ ap (λ (n : ℕ). steps_before c.args.matrix.sizes n ++ rest.0) c.count.ensures.count;
       },
-      subst (g.W.Watch.reported c.read_lexicons.new.watch) (behind_three before (MatrixRead sizes) (CategoriesRead count) UnknownRead rest.0) rest.2,
+      subst (g.W.Watch.reported c.read_lexicons.new.watch) (after_three before (MatrixRead sizes) (CategoriesRead count) UnknownRead rest.0) rest.2,
     )

@@ -5,7 +5,7 @@ use Rattle.dict_compile.specs.Steps.{AreEntrySteps}
 use Rattle.dict_compile.specs.Compilation.{IsUserCause}
 use Rattle.mj_model.specs.FirstFault.{IsMemoryOr}
 use Rattle.dict_compile.proofs.EveryKey.{keys_of_lexicons}
-use Rattle.dict_compile.proofs.UserLemmas.{is_system_of, same_told}
+use Rattle.dict_compile.proofs.UserLemmas.{is_system_of, same_reported}
 use Rattle.image_format.specs.ImageMeaning.{image_tables}
 use Rattle.dict_compile.proofs.KindLemmas.{a_user, not_both}
 use Rattle.dict_compile.proofs.user_compilation.compile_user_watched.Goals as goal
@@ -39,7 +39,7 @@ pub returns-in_err-compile_lexicons-clause-rejected : goal.returns-in_err-compil
 returns-in_err-compile_lexicons-clause-rejected g c = λ fault e.
     let system = image_tables c.args.system.now in
     let p = err_from_is_err_and c.from_residual.result c.from_residual.ensures.1 in
-    subst (λ told. IsMemoryOr told (IsUserCause system (map (λ lexicon. lexicon.now) c.args.lexicons.now) told)) (same_told (sym (p.1 ∙ ap Err p.2) ∙ e))
+    subst (λ reported. IsMemoryOr reported (IsUserCause system (map (λ lexicon. lexicon.now) c.args.lexicons.now) reported)) (same_reported (sym (p.1 ∙ ap Err p.2) ∙ e))
     (c.in_err-compile_lexicons.ensures.rejected system
     (is_system_of system c.matrix_sizes-sizes.result c.if-is_user.ensures.kind c.matrix_sizes-sizes.ensures.sizes))
 
@@ -52,8 +52,8 @@ returns-in_err-compile_lexicons-clause-first g c =
     (is_system_of system c.matrix_sizes-sizes.result c.if-is_user.ensures.kind c.matrix_sizes-sizes.ensures.sizes))
 
 pub returns-clause-steps : goal.returns-clause-steps
-returns-clause-steps g c = λ before told.
+returns-clause-steps g c = λ before reported.
     let system = image_tables c.args.system.now in
     let lexicons = map (λ lexicon. lexicon.now) c.args.lexicons.now in
-    let read = c.in_ok-compile_lexicons.ensures.steps before told in
+    let read = c.in_ok-compile_lexicons.ensures.steps before reported in
     (read.0, subst (λ (sizes : MatrixSizes). AreEntrySteps sizes lexicons read.0) c.matrix_sizes-sizes.ensures.sizes read.1, read.2)

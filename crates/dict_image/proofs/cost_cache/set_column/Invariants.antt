@@ -4,4 +4,4 @@ use Rattle.dict_image.specs.CostCache.{cost_after}
 use Rattle.dict_image.proofs.cost_cache.set_column.Given as goal
 
 abbrev pub invariant-loop-row : goal.invariant-loop-row
-invariant-loop-row l = IsColumnSet (cost_after l.sizes l.costs l.lefts l.rights l.column) (length l.rights) l.row l.column l.fn.near l.near
+invariant-loop-row l = IsColumnSet (cost_after l.sizes l.costs l.lefts l.rights l.column) (length l.rights) l.row l.column l.fn.cached l.cached

@@ -22,8 +22,8 @@ returns c =
     let less = within_section row.section c.args.right c.requires.there in
     let many = c.requires.row.numbers in
     let number : slice_get row.numbers.now c.args.right ≡ Some c.from.result = slice_get-get_or row.numbers.now c.args.right 0 (omega (arith, less, many)) ∙ ap Some (sym c.from.ensures) in
-    let cost : slice_get row.near.now c.from.result ≡ Some c.in_ok-cost.field-0.now =
+    let cost : slice_get row.cached.now c.from.result ≡ Some c.in_ok-cost.field-0.now =
     let found = c.in_ok-cost.ensures.lookup in
-    slice_get_read row.near.now (length row.near.now) c.from.result c.in_ok-cost.field-0.now refl (omega (arith, found.0)) found.1 in
-    let is : c.in_ok-cost.field-0.now ≡ stored_in row.section c.args.right = c.requires.row.near c.args.right c.from.result c.in_ok-cost.field-0.now number cost in
+    slice_get_read row.cached.now (length row.cached.now) c.from.result c.in_ok-cost.field-0.now refl (omega (arith, found.0)) found.1 in
+    let is : c.in_ok-cost.field-0.now ≡ stored_in row.section c.args.right = c.requires.row.cached c.args.right c.from.result c.in_ok-cost.field-0.now number cost in
     search (rules, is)

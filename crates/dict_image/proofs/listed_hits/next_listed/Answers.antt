@@ -2,7 +2,7 @@ use Rattle.std.proofs.Common.{◌≡◌, ◌∷◌, ◌++◌, ◌≤◌, ℕ, ap
 use Rattle.image_format.specs.OlderSections.{listed_number}
 use Rattle.dict_image.specs.ListedHits.{listed_hits_after}
 use Rattle.dict_image.proofs.PrefixBytes.{no_longer_number, none_begins}
-use Rattle.dict_image.proofs.ListedHitLemmas.{hit_here, no_hit_here, no_hits_at_end, no_hits_behind}
+use Rattle.dict_image.proofs.ListedHitLemmas.{hit_here, no_hit_here, no_hits_at_end, no_hits_after}
 use Rattle.dict_image.proofs.listed_hits.next_listed.Goals as goal
 
 pub returns-in-Some-clause-hits : goal.returns-in-Some-clause-hits
@@ -28,7 +28,7 @@ loop-started-preserved-then-started c =
     record {
       started = record { short = omega arith; are = none_begins list text started.length started.low started.high empty are };
       hits = c.loop-started.invariant.hits
-          ∙ no_hits_behind list text n (λ more. ap (λ (k : ℕ). listed_number list.count list.bytes (take k text ++ more)) (sym long) ∙ no_longer_number list (take started.length text) started.low started.high are empty more)
+          ∙ no_hits_after list text n (λ more. ap (λ (k : ℕ). listed_number list.count list.bytes (take k text ++ more)) (sym long) ∙ no_longer_number list (take started.length text) started.low started.high are empty more)
           ∙ sym (no_hits_at_end list text);
     }
 

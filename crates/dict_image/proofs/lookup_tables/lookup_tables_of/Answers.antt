@@ -1,5 +1,5 @@
 use Rattle.dict_image.proofs.OutlineLemmas.{sections_within}
-use Rattle.dict_image.proofs.CategoryLemmas.{categories_in_image, fronts_in}
+use Rattle.dict_image.proofs.CategoryLemmas.{categories_in_image, category_prefixes_in}
 use Rattle.dict_image.proofs.CostTableLemmas.{cost_table_in, costs_in}
 use Rattle.dict_image.proofs.InfoTableLemmas.{readable_in, table_in}
 use Rattle.dict_image.proofs.lookup_tables.lookup_tables_of.Goals as goal
@@ -20,7 +20,7 @@ pub section_bytes-named-requires-clause-within : goal.section_bytes-named-requir
 section_bytes-named-requires-clause-within c = sections_within c.args.bytes.now c.requires.formed
 
 pub categories_of-requires : goal.categories_of-requires
-categories_of-requires c = fronts_in c.args.bytes.now c.args.outline.now.header c.section_bytes-named.result.now c.requires.header_is c.section_bytes-named.ensures c.requires.formed
+categories_of-requires c = category_prefixes_in c.args.bytes.now c.args.outline.now.header c.section_bytes-named.result.now c.requires.header_is c.section_bytes-named.ensures c.requires.formed
 
 pub returns : goal.returns
 returns c =

@@ -1,16 +1,9 @@
-use Rattle.std.proofs.Common.{◌∷◌, [], List, String, refl, inl, inr, arith, subst}
-use Rattle.std.proofs.lemmas.List.Elements.{Contains-append_right}
+use Rattle.std.proofs.Common.{◌∷◌, [], refl, inr, arith, subst}
 use Rattle.std.proofs.lemmas.Result.{err_from_is_err_and}
-use Rattle.std.specs.declared.alloc.Global.{Global}
 use Rattle.programs.specs.Faults.{Names, NamesOneOf}
-use Rattle.programs.specs.declared.fault.Fault.{Fault}
 use Rattle.programs.specs.declared.fault.Fault.TheVariants.{File}
+use Rattle.dictc_lib.proofs.ReadingErrorLemmas.{NamesOneOf-append_right}
 use Rattle.dictc_lib.proofs.compiling.read_sources.Goals as goal
-
--- an error that names one of some files also names one of these files and two more
-behind_two : (first second : String Global) (paths : List (String Global)) (reported : Fault) → NamesOneOf paths reported → NamesOneOf (first ∷ second ∷ paths) reported
-behind_two first second paths reported (inl memory) = inl memory
-behind_two first second paths reported (inr (path, among, named)) = inr (path, Contains-append_right (first ∷ second ∷ []) paths path among, named)
 
 pub returns-in_err-read-clause-fault : goal.returns-in_err-read-clause-fault
 returns-in_err-read-clause-fault g c =
@@ -28,4 +21,4 @@ pub returns-in_err-read_lexicons-clause-fault : goal.returns-in_err-read_lexicon
 returns-in_err-read_lexicons-clause-fault g c =
     let p = err_from_is_err_and c.from_residual-in_err-read_lexicons.result c.from_residual-in_err-read_lexicons.ensures.1 in
     let named = subst (λ paths. NamesOneOf paths c.in_err-read_lexicons.field-0.0) c.deref.ensures.value c.in_err-read_lexicons.ensures.fault in
-    rw (p.1, p.2) (behind_two c.args.chars.now c.args.unk.now c.args.options.now.lexicons.items c.in_err-read_lexicons.field-0.0 named)
+    rw (p.1, p.2) (NamesOneOf-append_right (c.args.chars.now ∷ c.args.unk.now ∷ []) c.args.options.now.lexicons.items c.in_err-read_lexicons.field-0.0 named)

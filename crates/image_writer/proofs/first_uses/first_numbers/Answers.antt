@@ -3,7 +3,7 @@ use Rattle.std.specs.Prelude.{slice_index}
 use Rattle.std.proofs.lemmas.List.{get_or-map, length-set}
 use Rattle.image_writer.specs.declared.feature_use.FeatureUse.{FeatureUse}
 use Rattle.image_writer.specs.FirstUses.{entries_of}
-use Rattle.image_writer.proofs.FirstUseLemmas.{first_noted, all_noted}
+use Rattle.image_writer.proofs.FirstUseLemmas.{first_recorded, all_recorded}
 use Rattle.image_writer.proofs.first_uses.first_numbers.Goals as goal
 
 pub loop-k-preserved : goal.loop-k-preserved
@@ -19,8 +19,8 @@ loop-k-preserved c =
       length-set firsts entry c.first_at-first.result ∙ long,
       λ texts are up.
           let so_far = c.loop-k.invariant.1 texts are up in
-          first_noted texts uses k c.loop-k.first c.first_at-first.result entry firsts is low so_far (c.first_at-first.ensures texts are up so_far.last),
+          first_recorded texts uses k c.loop-k.first c.first_at-first.result entry firsts is low so_far (c.first_at-first.ensures texts are up so_far.last),
     )
 
 pub returns : goal.returns
-returns c = λ texts are up. all_noted texts c.args.uses.now c.loop-k.k c.loop-k.first c.loop-k.firsts.items are c.loop-k-test.false c.loop-k.invariant.0 (c.loop-k.invariant.1 texts are up)
+returns c = λ texts are up. all_recorded texts c.args.uses.now c.loop-k.k c.loop-k.first c.loop-k.firsts.items are c.loop-k-test.false c.loop-k.invariant.0 (c.loop-k.invariant.1 texts are up)

@@ -3,7 +3,7 @@ use Rattle.std.proofs.lemmas.List.{length-map}
 use Rattle.mj_model.specs.Lexicon.{Row, row_of}
 use Rattle.image_writer.specs.Entries.{surface_at}
 use Rattle.image_writer.specs.Groups.{AreGrouped, StartsGroup}
-use Rattle.image_writer.proofs.GroupingLemmas.{grouped_begun, grouped_on, grouped_full, grouped_none, key_of_entry}
+use Rattle.image_writer.proofs.GroupingLemmas.{grouped_started, grouped_on, grouped_full, grouped_none, key_of_entry}
 use Rattle.image_writer.proofs.Results.{passed_on}
 use Rattle.image_writer.proofs.groups.group_entries.Goals as goal
 use Rattle.image_writer.proofs.groups.group_entries.Goals.{then-starts_group+in_ok-start_group, else-starts_group}
@@ -23,7 +23,7 @@ loop-i-preserved c =
     elim c.if-starts_group.branch [
       | then-starts_group+in_ok-start_group w ↦
           subst (AreGrouped rows (i + 1)) (sym w.groups-is)
-          (grouped_begun rows sorted i c.loop-i.groups w.start_group.new.self w.as_bytes.result.now less c.loop-i.invariant
+          (grouped_started rows sorted i c.loop-i.groups w.start_group.new.self w.as_bytes.result.now less c.loop-i.invariant
           (subst (λ (rs : List Row). StartsGroup rs i) are (c.starts_group.ensures.0 w.if-starts_group.true))
           (key_of_entry records i w.index-records-i.result w.as_bytes.result.now test (w.as_bytes.ensures.value ∙ w.as_str.ensures.value) ∙ ap (λ (rs : List Row). surface_at rs i) are)
           w.in_ok-start_group.ensures.map w.in_ok-start_group.ensures.starts w.in_ok-start_group.ensures.growth)

@@ -4,13 +4,13 @@ use Rattle.image_format.specs.ImageMeaning.{image_tables}
 use Rattle.mj_model.specs.Overlays.{overlay_fault}
 use Rattle.mj_model.specs.declared.run_fault.RunFault.TheVariants.{Source}
 use Rattle.segmenter.specs.SourceRuns.{EndedBeforeReading}
-use Rattle.segmenter.proofs.RunFaults.{not_early, source_first, source_is_early, source_of_no_user, source_told}
+use Rattle.segmenter.proofs.RunFaults.{not_early, source_first, source_is_early, source_of_no_user, source_reported}
 use Rattle.segmenter.proofs.OverlayLemmas.{have_overlay, no_overlay_fault, none_and_some, with_grouping}
 use Rattle.word_lookup.specs.Overlays.{overlay_of}
 use Rattle.jseg_lib.proofs.views.print_source_views.Goals as goal
 
 pub returns-in-Err-clause-source : goal.returns-in-Err-clause-source
-returns-in-Err-clause-source g c = λ reported e. source_told c.args.sources.now c.in-Err.fault reported c.run_fault_of.result (c.run_fault_of.ensures Source refl) c.in-Err.ensures.rejected e
+returns-in-Err-clause-source g c = λ reported e. source_reported c.args.sources.now c.in-Err.fault reported c.run_fault_of.result (c.run_fault_of.ensures Source refl) c.in-Err.ensures.rejected e
 
 pub returns-in-Err-clause-rejected : goal.returns-in-Err-clause-rejected
 returns-in-Err-clause-rejected g c = λ fault h. source_first c.in-Err.fault fault c.run_fault_of.result (c.run_fault_of.ensures Source refl) (c.in-Err.ensures.first fault h)

@@ -1,17 +1,17 @@
 use Rattle.std.proofs.Common.{rules, ◌++◌, ◌∷◌, [], List, ℕ, ◌∙◌, ap, append_assoc}
 use Rattle.std.proofs.lemmas.Result.{on_ok_weaker}
-use Rattle.lex_source.proofs.QuoteLemmas.{behind_quote, read_more, read_all, front_more}
+use Rattle.lex_source.proofs.QuoteLemmas.{after_quote, read_more, read_all, prefix_more}
 use Rattle.lex_source.proofs.quoted.append_undoubled.Goals as goal
 
 pub split_around-requires-clause-within : goal.split_around-requires-clause-within
 split_around-requires-clause-within g c =
     let left = c.loop-before.invariant.left c.requires.0 c.requires.1 in
-    (behind_quote c.loop-before.rest.now c.in-Some.before.now c.in-Some.following.now (left.0, left.1) c.in-Some.ensures).0
+    (after_quote c.loop-before.rest.now c.in-Some.before.now c.in-Some.following.now (left.0, left.1) c.in-Some.ensures).0
 
 pub split_around-requires-clause-ascii : goal.split_around-requires-clause-ascii
 split_around-requires-clause-ascii g c =
     let left = c.loop-before.invariant.left c.requires.0 c.requires.1 in
-    (behind_quote c.loop-before.rest.now c.in-Some.before.now c.in-Some.following.now (left.0, left.1) c.in-Some.ensures).1
+    (after_quote c.loop-before.rest.now c.in-Some.before.now c.in-Some.following.now (left.0, left.1) c.in-Some.ensures).1
 
 pub loop-before-preserved : goal.loop-before-preserved
 loop-before-preserved g c =
@@ -25,7 +25,7 @@ loop-before-preserved g c =
       utf8 = search rules;
       left = λ field is. read_more c.args.raw.now (old ++ field) c.loop-before.rest.now before c.in-Some.following.now done c.split_around.result.1.now after (c.loop-before.invariant.left field is)
           c.in-Some.ensures c.split_around.ensures.after pushed;
-      front = front_more old done (before ++ 34 ∷ []) after c.loop-before.invariant.front (pushed ∙ append_assoc done before (34 ∷ []));
+      front = prefix_more old done (before ++ 34 ∷ []) after c.loop-before.invariant.front (pushed ∙ append_assoc done before (34 ∷ []));
     }
 
 pub returns-clause-appended : goal.returns-clause-appended

@@ -10,8 +10,8 @@ use Rattle.line_stream.proofs.RunEnds.{ran_of, ran_read_failed, ran_bound, ran_w
 use Rattle.line_stream.proofs.WritingLemmas.{no_failure, one_end}
 use Rattle.line_stream.proofs.reading.print_lines.Goals as goal
 
-pub work-requires-clause-open : goal.work-requires-clause-open
-work-requires-clause-open g c = subst HasNoFeed (sym c.loop-turn.invariant.open_is) (open_no_feed c.loop-turn.invariant.bytes)
+pub process_piece-requires-clause-open : goal.process_piece-requires-clause-open
+process_piece-requires-clause-open g c = subst HasNoFeed (sym c.loop-turn.invariant.open_is) (open_no_feed c.loop-turn.invariant.bytes)
 
 pub loop-turn-preserved : goal.loop-turn-preserved
 loop-turn-preserved g c =
@@ -28,18 +28,18 @@ loop-turn-preserved g c =
     let small = c.requires.buffer.1 in
     running_more (g.P.LinePrinter.line_result c.args.printer.now) _ _ _ _ _ _ _ _ _ c.loop-turn._turn
     c.loop-turn.progress.pending.items c.loop-turn.progress.out.items (take taken c.read_counted.new.buf) c.loop-turn.progress.lines c.loop-turn.sent
-    c.work.new.progress.pending.items c.work.new.progress.out.items c.work.new.progress.lines c.work.new.sent
-    c.loop-turn.invariant c.in-Ok.ensures.bytes.0 (omega (arith, some, fits, len)) (omega (arith, kept, same, len, small)) c.in_ok-work.ensures.processed c.in_ok-work.ensures.open
-    c.in_ok-work.ensures.short c.in_ok-work.ensures.nothing_waits c.in_ok-work.ensures.few_lines c.in_ok-work.ensures.few_bytes c.in-Ok.ensures.reads
-    (omega (arith, ends, none)) (omega (arith, failures)) c.in_ok-work.ensures.no_flush
+    c.process_piece.new.progress.pending.items c.process_piece.new.progress.out.items c.process_piece.new.progress.lines c.process_piece.new.sent
+    c.loop-turn.invariant c.in-Ok.ensures.bytes.0 (omega (arith, some, fits, len)) (omega (arith, kept, same, len, small)) c.in_ok-process_piece.ensures.processed c.in_ok-process_piece.ensures.open
+    c.in_ok-process_piece.ensures.short c.in_ok-process_piece.ensures.nothing_waits c.in_ok-process_piece.ensures.few_lines c.in_ok-process_piece.ensures.few_bytes c.in-Ok.ensures.reads
+    (omega (arith, ends, none)) (omega (arith, failures)) c.in_ok-process_piece.ensures.no_flush
 
-pub returns-in_err-work : goal.returns-in_err-work
-returns-in_err-work g c =
+pub returns-in_err-process_piece : goal.returns-in_err-process_piece
+returns-in_err-process_piece g c =
     let p = err_from_is_err_and c.from_residual.result c.from_residual.ensures.1 in
     let from = g.R.TextIn.state c.args.reader.now in
     let to = g.R.TextIn.state c.read_counted.new.self in
     let before = g.W.TextOut.state c.args.writer.now in
-    let after = g.W.TextOut.state c.work.new.writer in
+    let after = g.W.TextOut.state c.process_piece.new.writer in
     let Reports = g.P.LinePrinter.line_result c.args.printer.now in
     let taken = c.in-Ok.n in
     let none = no_failure taken (nat_lt 0 (length c.loop-turn.buffer)) c.in-Ok.n-test.1 in
@@ -52,12 +52,12 @@ returns-in_err-work g c =
     let fits = c.in-Ok.ensures.bound in
     let small = c.requires.buffer.1 in
     rw (p.1, p.2) (record {
-      run = ran_of Reports c.args.bound from to before after (Err c.in_err-work.field-0.0)
+      run = ran_of Reports c.args.bound from to before after (Err c.in_err-process_piece.field-0.0)
           (ran_work Reports c.args.bound _ _ _ _ _ _ _ _ (run_state to after) c.loop-turn._turn
           c.loop-turn.progress.pending.items c.loop-turn.progress.out.items c.loop-turn.progress.lines c.loop-turn.sent c.loop-turn.invariant
           c.loop-turn-test.true c.in-Ok.ensures.reads (omega (arith, failures))
-          (take taken c.read_counted.new.buf) c.in_err-work.field-0.0 c.in-Ok.ensures.bytes.0 (omega (arith, some, fits, len)) (omega (arith, kept, same, len, small))
-          (omega (arith, ends, none)) c.in_err-work.ensures.no_flush c.in_err-work.ensures.stopped);
+          (take taken c.read_counted.new.buf) c.in_err-process_piece.field-0.0 c.in-Ok.ensures.bytes.0 (omega (arith, some, fits, len)) (omega (arith, kept, same, len, small))
+          (omega (arith, ends, none)) c.in_err-process_piece.ensures.no_flush c.in_err-process_piece.ensures.stopped);
     })
 
 pub returns-in-Ok-eq0 : goal.returns-in-Ok-eq0

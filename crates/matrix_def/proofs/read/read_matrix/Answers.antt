@@ -3,7 +3,7 @@ use Rattle.std.proofs.lemmas.Result.{IfErr-weaker}
 use Rattle.mj_model.specs.Connection.{connection_of}
 use Rattle.mj_model.specs.FirstFault.{IsMemoryOr}
 use Rattle.matrix_def.specs.Reading.{reported_connection}
-use Rattle.matrix_def.proofs.NumberLemmas.{told_refusal}
+use Rattle.matrix_def.proofs.NumberLemmas.{reported_error}
 use Rattle.matrix_def.proofs.read.read_matrix.Goals as goal
 
 pub returns-clause-accepted : goal.returns-clause-accepted
@@ -14,4 +14,4 @@ returns-clause-rejected c =
     let bytes = c.args.bytes.now in
     let short : length bytes < 2 ^ 64 = search rules in
     IfErr-weaker c.finish.result (λ fault. IsMemoryOr fault (reported_connection bytes ≡ Err fault)) (λ fault. IsMemoryOr fault (connection_of bytes ≡ Err fault))
-    (λ fault h. told_refusal bytes fault short h) (c.finish.ensures.rejected bytes (c.in_ok-read.ensures.read [] c.new.ensures))
+    (λ fault h. reported_error bytes fault short h) (c.finish.ensures.rejected bytes (c.in_ok-read.ensures.read [] c.new.ensures))

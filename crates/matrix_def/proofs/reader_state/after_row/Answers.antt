@@ -8,7 +8,7 @@ use Rattle.mj_model.specs.declared.source_fault.SourceFault.{SourceFault}
 use Rattle.mj_model.specs.Connection.{row_fault}
 use Rattle.matrix_def.specs.Costs.{CostTable, cell_at}
 use Rattle.matrix_def.specs.Rows.{IsRow, cell_of}
-use Rattle.matrix_def.proofs.ReadingLemmas.{fill_more, fill_refused}
+use Rattle.matrix_def.proofs.ReadingLemmas.{fill_more, fill_rejected}
 use Rattle.matrix_def.proofs.reader_state.after_row.Goals as goal
 
 pub returns-in-Ok : goal.returns-in-Ok
@@ -22,6 +22,6 @@ returns-in-Ok c = λ lines fill.
 
 pub returns-in-Err : goal.returns-in-Err
 returns-in-Err c = λ lines fill more.
-    fill_refused lines c.args.matrix c.args.number c.args.row.now c.in-Err.kind fill
+    fill_rejected lines c.args.matrix c.args.number c.args.row.now c.in-Err.kind fill
     (subst (λ (sizes : MatrixSizes). row_fault sizes c.args.row.now ≡ Some c.in-Err.kind) c.sizes.ensures.sizes c.in-Err.ensures) more
     ∙ ap (λ (fault : SourceFault). Err fault) (sym c.at.ensures)

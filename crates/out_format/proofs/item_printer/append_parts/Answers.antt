@@ -1,10 +1,10 @@
 use Rattle.std.proofs.Common.{rules, ◌∙◌, sym}
-use Rattle.word_lookup.proofs.AppendLemmas.{front_kept}
+use Rattle.word_lookup.proofs.AppendLemmas.{prefix_kept}
 use Rattle.out_format.proofs.PrintedLemmas.{part_more}
 use Rattle.out_format.proofs.item_printer.append_parts.Goals as goal
 
 pub returns-in_err-append_one-clause-unchanged : goal.returns-in_err-append_one-clause-unchanged
-returns-in_err-append_one-clause-unchanged g c = front_kept _ _ _ _ _ (search rules) (c.append_one.ensures.unchanged ∙ c.loop-part.invariant.appended)
+returns-in_err-append_one-clause-unchanged g c = prefix_kept _ _ _ _ _ (search rules) (c.append_one.ensures.unchanged ∙ c.loop-part.invariant.appended)
 
 pub loop-part-preserved : goal.loop-part-preserved
 loop-part-preserved g c =

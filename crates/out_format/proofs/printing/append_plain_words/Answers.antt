@@ -1,5 +1,5 @@
 use Rattle.std.proofs.Common.{◌∙◌, rules}
-use Rattle.word_lookup.proofs.AppendLemmas.{front_kept}
+use Rattle.word_lookup.proofs.AppendLemmas.{prefix_kept}
 use Rattle.word_lookup.specs.Overlays.{overlay_of}
 use Rattle.out_format.proofs.PlainLemmas.{all_plain, next_surface, no_plain_yet, plain_more}
 use Rattle.out_format.proofs.printing.append_plain_words.Goals as goal
@@ -13,7 +13,7 @@ append_parts-requires g c =
     c.args.out.now.items c.loop-word.out.items c.in-Some.ensures c.loop-word.invariant
 
 pub returns-in_err-append_parts-clause-unchanged : goal.returns-in_err-append_parts-clause-unchanged
-returns-in_err-append_parts-clause-unchanged g c = front_kept _ _ _ _ _ (search rules) (c.append_parts.ensures.unchanged ∙ c.loop-word.invariant.shown.appended)
+returns-in_err-append_parts-clause-unchanged g c = prefix_kept _ _ _ _ _ (search rules) (c.append_parts.ensures.unchanged ∙ c.loop-word.invariant.shown.appended)
 
 pub loop-word-preserved : goal.loop-word-preserved
 loop-word-preserved g c =

@@ -4,7 +4,7 @@ use Rattle.std.proofs.lemmas.Int.{to_z-of_z}
 use mir.Val.{to_z, of_z, SFits}
 use mir.Syntax.{w64}
 use Rattle.mj_model.specs.declared.word.Origin.{Origin}
-use Rattle.word_lookup.proofs.AppendLemmas.{front_kept}
+use Rattle.word_lookup.proofs.AppendLemmas.{prefix_kept}
 use Rattle.word_lookup.specs.Overlays.{overlay_of}
 use Rattle.out_format.specs.Followable.{AreFollowable}
 use Rattle.out_format.proofs.FollowLemmas.{has_feature, next_followable}
@@ -31,7 +31,7 @@ append_parts-requires g c = record {
 }
 
 pub returns-in_err-append_parts-clause-unchanged : goal.returns-in_err-append_parts-clause-unchanged
-returns-in_err-append_parts-clause-unchanged g c = front_kept _ _ _ _ _ (search rules) (c.append_parts.ensures.unchanged ∙ c.loop-word.invariant.shown.appended)
+returns-in_err-append_parts-clause-unchanged g c = prefix_kept _ _ _ _ _ (search rules) (c.append_parts.ensures.unchanged ∙ c.loop-word.invariant.shown.appended)
 
 pub loop-word-preserved : goal.loop-word-preserved
 loop-word-preserved g c =

@@ -15,7 +15,7 @@ use test_support::text::words;
 fn written_and_read(rt: &HostRuntime, dir: &str, image: &[u8]) -> Result<Dict, Fail> {
     write_in(rt, dir, "some.img", image)?;
     let path = in_directory(rt, dir, "some.img")?;
-    Ok(load_dictionary(rt, path.as_str(), DigestTest::Made)?)
+    Ok(load_dictionary(rt, path.as_str(), DigestTest::Verified)?)
 }
 
 /// Returns the sample's dictionary.

@@ -1,6 +1,6 @@
 //! Checksums that are computed while an image is read.
 
-use dict_image::DigestTest::{self, Made, Skipped};
+use dict_image::DigestTest::{self, Skipped, Verified};
 use mj_model::ImageFault;
 use programs::{ImageReading, ReadImage, read_image};
 use segmenter::sample;
@@ -53,16 +53,16 @@ type DigestRow = (
 #[rattlefmt::skip]
 static READ_DIGESTS: [DigestRow; 10] = [
     // (what, changed byte, most bytes of a read, requested test, test left, error)
-    ("a right digest",                    0,  99_999, Made,    Skipped, None),
-    ("a right digest, singly",            0,  1,      Made,    Skipped, None),
-    ("behind the header",                 0,  104,    Made,    Skipped, None),
-    ("a right digest, not asked for",     0,  99_999, Skipped, Skipped, None),
-    ("another digest",                    1,  99_999, Made,    Made,    Some(ImageFault::Digest)),
-    ("another digest, singly",            1,  1,      Made,    Made,    Some(ImageFault::Digest)),
-    ("another digest, not asked for",     1,  99_999, Skipped, Skipped, None),
-    ("another feature",                   33, 99_999, Made,    Made,    Some(ImageFault::Digest)),
-    ("another feature, singly",           33, 1,      Made,    Made,    Some(ImageFault::Digest)),
-    ("another feature, not asked for",    33, 99_999, Skipped, Skipped, None),
+    ("a right digest",                    0,  99_999, Verified, Skipped,  None),
+    ("a right digest, singly",            0,  1,      Verified, Skipped,  None),
+    ("behind the header",                 0,  104,    Verified, Skipped,  None),
+    ("a right digest, not asked for",     0,  99_999, Skipped,  Skipped,  None),
+    ("another digest",                    1,  99_999, Verified, Verified, Some(ImageFault::Digest)),
+    ("another digest, singly",            1,  1,      Verified, Verified, Some(ImageFault::Digest)),
+    ("another digest, not asked for",     1,  99_999, Skipped,  Skipped,  None),
+    ("another feature",                   33, 99_999, Verified, Verified, Some(ImageFault::Digest)),
+    ("another feature, singly",           33, 1,      Verified, Verified, Some(ImageFault::Digest)),
+    ("another feature, not asked for",    33, 99_999, Skipped,  Skipped,  None),
 ];
 
 /// Reads an image from `bytes`, at most `most` of them in each read.

@@ -162,7 +162,7 @@ fn files_in_their_order(rt: HostRuntime) -> Result<(), Fail> {
 
 /// Returns the error of loading the image at `path`.
 fn fault_at(rt: &HostRuntime, path: &str) -> Option<Fault> {
-    load_dictionary(rt, path, DigestTest::Made).err()
+    load_dictionary(rt, path, DigestTest::Verified).err()
 }
 
 /// Writes a file that is not an image.

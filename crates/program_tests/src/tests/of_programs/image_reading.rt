@@ -72,7 +72,7 @@ fn answered<R: Read>(
     bytes: &[u8],
 ) -> Option<Answer> {
     let reading = ImageReading {
-        digest: DigestTest::Made,
+        digest: DigestTest::Verified,
         reported: None,
     };
     match read_image(alloc, reader, known, reads, reading) {

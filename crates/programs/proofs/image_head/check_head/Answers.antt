@@ -61,7 +61,7 @@ returns-in_default-known-clause-header c = record {
   long = c.requires;
   magic = c.has_magic.ensures.0 c.if-not-has_magic.false;
   layout = subst IsReadLayout (ap (λ (h : Header). h.layout) c.read_header-header.ensures) (c.is_read.ensures.0 c.if-not-is_read.false);
-  told_is = c.in-Some.ensures ∙ ap total_length c.read_header-header.ensures;
+  reported_is = c.in-Some.ensures ∙ ap total_length c.read_header-header.ensures;
 }
 
 pub returns-in_default-known-2-clause-header : goal.returns-in_default-known-2-clause-header
@@ -69,7 +69,7 @@ returns-in_default-known-2-clause-header c = record {
   long = c.requires;
   magic = c.has_magic.ensures.0 c.if-not-has_magic.false;
   layout = subst IsReadLayout (ap (λ (h : Header). h.layout) c.read_header-header.ensures) (c.is_read.ensures.0 c.if-not-is_read.false);
-  told_is = c.in-Some.ensures ∙ ap total_length c.read_header-header.ensures;
+  reported_is = c.in-Some.ensures ∙ ap total_length c.read_header-header.ensures;
 }
 
 pub returns-then-not-has_magic-clause-checked : goal.returns-then-not-has_magic-clause-checked
@@ -110,7 +110,7 @@ returns-in-Some-known-clause-checked c =
       long = c.requires;
       magic = c.has_magic.ensures.0 c.if-not-has_magic.false;
       layout = subst IsReadLayout (ap (λ (h : Header). h.layout) c.read_header-header.ensures) (c.is_read.ensures.0 c.if-not-is_read.false);
-      told_is = c.in-Some.ensures ∙ ap total_length c.read_header-header.ensures;
+      reported_is = c.in-Some.ensures ∙ ap total_length c.read_header-header.ensures;
     } in
     λ rest few. inr (c.in-Some-known.length, c.in-Some-known.is, (reported, head_kept first rest c.requires reported head, inl (refl, c.if-length-reported.true)))
 
@@ -122,6 +122,6 @@ returns-in-Some-2-clause-checked c =
       long = c.requires;
       magic = c.has_magic.ensures.0 c.if-not-has_magic.false;
       layout = subst IsReadLayout (ap (λ (h : Header). h.layout) c.read_header-header.ensures) (c.is_read.ensures.0 c.if-not-is_read.false);
-      told_is = c.in-Some.ensures ∙ ap total_length c.read_header-header.ensures;
+      reported_is = c.in-Some.ensures ∙ ap total_length c.read_header-header.ensures;
     } in
     λ rest few. inr (c.in-Some-2.length, c.in-Some-2.is, (reported, head_kept first rest c.requires reported head, inr (refl, c.if-reported-length.true)))

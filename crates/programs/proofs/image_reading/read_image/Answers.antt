@@ -4,7 +4,7 @@ use Rattle.std.specs.Io.KnownBytes.{IsAtEnd}
 use Rattle.std.proofs.lemmas.Result.{err_from_is_err_and}
 use Rattle.programs.specs.ImageHeads.{IsFaultOfEach, IsForLength, IsHead, IsErrorOrLengthAt, IsErrorOrLengthOfEach, IsReadHead, IsErrorAt, IsRejectedEarly, IsRestError}
 use Rattle.programs.specs.Reading.{IsReadOn}
-use Rattle.programs.proofs.ImageHeadLemmas.{head_behind, judged_at, judged_behind, late, refused_at, refused_behind}
+use Rattle.programs.proofs.ImageHeadLemmas.{head_after, tested_at, tested_after, late, rejected_at, rejected_after}
 use Rattle.programs.proofs.ReadOn.{started, consumed, gives_further, read_further, read_is_all}
 use Rattle.programs.proofs.Results.{if_err_so, if_ok_both}
 use Rattle.programs.proofs.image_reading.read_image.Goals as goal
@@ -39,7 +39,7 @@ returns-in-Ok-clause-head g c =
     let first = c.in_ok-first-in-Ok.first.items in
     let head = subst (λ (first : List ℕ). IsHead first reported) (c.deref.ensures.value ∙ sym c.in_ok-first-in-Ok.ensures) c.in-Ok.ensures.header in
     if_ok_both (λ image. IsReadOn first b e image.bytes.items) (λ image. length image.bytes.items ≤ reported) (λ image. IsReadHead image.bytes.items) c.read_rest.result
-    (λ image more few. inr (head_behind first image.bytes.items reported b e head more few))
+    (λ image more few. inr (head_after first image.bytes.items reported b e head more few))
     c.read_rest.ensures.whole c.read_rest.ensures.few
 
 pub returns-in-Ok-clause-endless : goal.returns-in-Ok-clause-endless
@@ -58,7 +58,7 @@ returns-in-Ok-clause-rejected g c =
     let start = started 103 c.args.reads _ c.in-Ok-More.left a b c.in-Ok-More.field-0 c.in-Ok-More.bytes c.in-Ok-More.field-0-is (c.in-Ok-More.ensures.prefix [] c.new.ensures.items) in
     let read = subst (IsReadOn [] a b) (sym c.in_ok-first-in-Ok.ensures) start.0 in
     if_err_so (IsRestError first b) (IsErrorAt c.args.known a) c.read_rest.result
-    (λ fault rest. refused_behind c.args.known a b first fault (consumed a b first read) rest)
+    (λ fault rest. rejected_after c.args.known a b first fault (consumed a b first read) rest)
     c.read_rest.ensures.rejected
 
 pub returns-in-Ok-clause-checked : goal.returns-in-Ok-clause-checked
@@ -69,7 +69,7 @@ returns-in-Ok-clause-checked g c =
     let start = started 103 c.args.reads _ c.in-Ok-More.left a b c.in-Ok-More.field-0 c.in-Ok-More.bytes c.in-Ok-More.field-0-is (c.in-Ok-More.ensures.prefix [] c.new.ensures.items) in
     let read = subst (IsReadOn [] a b) (sym c.in_ok-first-in-Ok.ensures) start.0 in
     if_err_so (IsRestError first b) (IsErrorOrLengthAt c.args.known a) c.read_rest.result
-    (λ fault rest. judged_behind c.args.known a b first fault (consumed a b first read) rest)
+    (λ fault rest. tested_after c.args.known a b first fault (consumed a b first read) rest)
     c.read_rest.ensures.rejected
 
 pub returns-in_err-first-in-Ok-clause-checked : goal.returns-in_err-first-in-Ok-clause-checked
@@ -83,7 +83,7 @@ returns-in-Ok-More-clause-checked g c =
     let b = g.R.Read.remaining c.read_prefix.new.reader in
     let fault = c.in-Err-check_head.fault in
     let start = started 103 c.args.reads _ c.in-Ok-More.left a b c.in-Ok-More.field-0 c.in-Ok-More.bytes c.in-Ok-More.field-0-is (c.in-Ok-More.ensures.prefix [] c.new.ensures.items) in
-    judged_at c.args.known a b c.in-Ok-More.bytes.items fault (consumed a b c.in-Ok-More.bytes.items start.0)
+    tested_at c.args.known a b c.in-Ok-More.bytes.items fault (consumed a b c.in-Ok-More.bytes.items start.0)
     (subst (λ (first : List ℕ). IsErrorOrLengthOfEach c.args.known first fault) c.deref.ensures.value c.in-Err-check_head.ensures.checked)
 
 pub returns-in-Ok-More-clause-rejected : goal.returns-in-Ok-More-clause-rejected
@@ -92,7 +92,7 @@ returns-in-Ok-More-clause-rejected g c =
     let b = g.R.Read.remaining c.read_prefix.new.reader in
     let fault = c.in-Err-check_head.fault in
     let start = started 103 c.args.reads _ c.in-Ok-More.left a b c.in-Ok-More.field-0 c.in-Ok-More.bytes c.in-Ok-More.field-0-is (c.in-Ok-More.ensures.prefix [] c.new.ensures.items) in
-    refused_at c.args.known a b c.in-Ok-More.bytes.items fault (consumed a b c.in-Ok-More.bytes.items start.0)
+    rejected_at c.args.known a b c.in-Ok-More.bytes.items fault (consumed a b c.in-Ok-More.bytes.items start.0)
     (subst (λ (first : List ℕ). IsFaultOfEach c.args.known first fault) c.deref.ensures.value c.in-Err-check_head.ensures.rejected)
 
 pub returns-in-Ok-More-clause-early : goal.returns-in-Ok-More-clause-early

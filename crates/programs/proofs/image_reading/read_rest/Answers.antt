@@ -6,7 +6,7 @@ use Rattle.programs.specs.declared.image_pieces.ImagePieces.{ImagePieces}
 use Rattle.programs.specs.declared.image_reading.ReadImage.{ReadImage}
 use Rattle.programs.specs.declared.reading.ReadFault.{ReadFault}
 use Rattle.programs.specs.declared.reading.ReadFault.TheVariants.{Endless}
-use Rattle.programs.proofs.ImageHeadLemmas.{longer_behind}
+use Rattle.programs.proofs.ImageHeadLemmas.{longer_after}
 use Rattle.programs.proofs.Results.{same_read}
 use Rattle.programs.proofs.image_reading.read_rest.Goals as goal
 
@@ -54,7 +54,7 @@ returns-in-Ok-More-clause-rejected g c =
     let is = subst (IsPrefixRead (λ (pieces : ImagePieces) (bytes : List ℕ). HasReceived bytes pieces) _ c.args.reads _ c.args.first.items before after) c.in-Ok-More.field-0-is front in
     let many = is.3 in
     let more = c.saturating_sub-more.ensures in
-    longer_behind c.args.first.items is.0 c.args.reported before after c.requires.head is.2 (omega (arith, many, more))
+    longer_after c.args.first.items is.0 c.args.reported before after c.requires.head is.2 (omega (arith, many, more))
 
 pub returns-clause-endless : goal.returns-clause-endless
 returns-clause-endless g c = λ same. c.in-Err.ensures.endless (ap (λ (fault : ReadFault). Err fault) (same_read ReadImage c.in-Err.fault Endless same))

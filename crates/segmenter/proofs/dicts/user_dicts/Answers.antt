@@ -4,7 +4,7 @@ use Rattle.image_format.specs.ImageMeaning.{image_tables}
 use Rattle.mj_model.specs.declared.run_fault.RunFault.TheVariants.{UserSource}
 use Rattle.segmenter.specs.SourceDicts.{IsUserDictOf, users_of}
 use Rattle.segmenter.proofs.ResultLemmas.{when_ok}
-use Rattle.segmenter.proofs.UserDicts.{none_at_fault, user_first, user_more, user_refused, users_end}
+use Rattle.segmenter.proofs.UserDicts.{none_at_fault, user_first, user_more, user_error_first, users_end}
 use Rattle.segmenter.proofs.dicts.user_dicts.Goals as goal
 
 pub loop-i-init : goal.loop-i-init
@@ -12,7 +12,7 @@ loop-i-init c = subst (λ dicts. AllZip (IsUserDictOf (image_tables c.args.syste
 
 pub returns-in-Err-clause-rejected : goal.returns-in-Err-clause-rejected
 returns-in-Err-clause-rejected c =
-    user_refused (image_tables c.args.system.now) c.args.users.now c.loop-i.i _ c.loop-i.dicts.items c.loop-i-test.true c.loop-i.invariant c.in-Err.fault c.run_fault_of.result (c.run_fault_of.ensures (UserSource c.loop-i.i) refl) c.in-Err.ensures.rejected
+    user_error_first (image_tables c.args.system.now) c.args.users.now c.loop-i.i _ c.loop-i.dicts.items c.loop-i-test.true c.loop-i.invariant c.in-Err.fault c.run_fault_of.result (c.run_fault_of.ensures (UserSource c.loop-i.i) refl) c.in-Err.ensures.rejected
 
 pub returns-in-Err-clause-first : goal.returns-in-Err-clause-first
 returns-in-Err-clause-first c =

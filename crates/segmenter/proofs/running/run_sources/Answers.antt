@@ -8,14 +8,14 @@ use Rattle.word_lookup.specs.Overlays.{overlay_of}
 use Rattle.mj_model.specs.declared.run_fault.RunFault.TheVariants.{Source}
 use Rattle.segmenter.specs.SourceDicts.{users_of}
 use Rattle.segmenter.specs.SourceRuns.{EndedBeforeReading}
-use Rattle.segmenter.proofs.RunFaults.{not_early, source_first, source_before_users, source_is_early, source_of_no_user, source_told, users_are_early, users_over, users_tell_no_source, users_told}
+use Rattle.segmenter.proofs.RunFaults.{not_early, source_first, source_before_users, source_is_early, source_of_no_user, source_reported, users_are_early, users_over, users_report_no_source, users_reported}
 use Rattle.segmenter.proofs.OverlayLemmas.{have_overlay, no_overlay_fault, none_and_some, with_grouping}
 use Rattle.segmenter.proofs.UserDicts.{none_at_fault}
 use Rattle.segmenter.proofs.SegmentedTexts.{segmented_by}
 use Rattle.segmenter.proofs.running.run_sources.Goals as goal
 
 pub returns-in-Err-clause-source : goal.returns-in-Err-clause-source
-returns-in-Err-clause-source g c = λ reported e. source_told c.args.sources.now c.in-Err.fault reported c.run_fault_of.result (c.run_fault_of.ensures Source refl) c.in-Err.ensures.rejected e
+returns-in-Err-clause-source g c = λ reported e. source_reported c.args.sources.now c.in-Err.fault reported c.run_fault_of.result (c.run_fault_of.ensures Source refl) c.in-Err.ensures.rejected e
 
 pub returns-in-Err-clause-user_source : goal.returns-in-Err-clause-user_source
 returns-in-Err-clause-user_source g c = λ i reported e. absurd (source_of_no_user c.in-Err.fault reported i c.run_fault_of.result (c.run_fault_of.ensures Source refl) e)
@@ -42,12 +42,12 @@ user_dicts-requires g c = c.in-Ok.ensures.dict.2.have.tables.kind
 pub returns-in_err-users-clause-source : goal.returns-in_err-users-clause-source
 returns-in_err-users-clause-source g c = λ reported.
     let p = err_from_is_err_and c.from_residual.result c.from_residual.ensures.1 in
-    rw (p.1, p.2) (λ e. absurd (users_tell_no_source (image_tables c.in-Ok.system) (users_of c.args.users.now) c.in_err-users.field-0.0 reported c.in_err-users.ensures.rejected e))
+    rw (p.1, p.2) (λ e. absurd (users_report_no_source (image_tables c.in-Ok.system) (users_of c.args.users.now) c.in_err-users.field-0.0 reported c.in_err-users.ensures.rejected e))
 
 pub returns-in_err-users-clause-user_source : goal.returns-in_err-users-clause-user_source
 returns-in_err-users-clause-user_source g c = λ i reported.
     let p = err_from_is_err_and c.from_residual.result c.from_residual.ensures.1 in
-    rw (p.1, p.2) (users_told c.args.sources.now c.in-Ok.system (users_of c.args.users.now) c.in_err-users.field-0.0 i reported c.in-Ok.ensures.dict c.in_err-users.ensures.rejected)
+    rw (p.1, p.2) (users_reported c.args.sources.now c.in-Ok.system (users_of c.args.users.now) c.in_err-users.field-0.0 i reported c.in-Ok.ensures.dict c.in_err-users.ensures.rejected)
 
 pub returns-in_err-users-clause-rejected : goal.returns-in_err-users-clause-rejected
 returns-in_err-users-clause-rejected g c = λ fault h.

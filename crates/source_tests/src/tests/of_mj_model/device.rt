@@ -17,9 +17,9 @@ pub static ANSWERS: [(&str, Result<usize, ErrorKind>); 5] = [
     ("timed out",         Err(TimedOut)),
 ];
 
-/// Returns `answer` with the kind of its error alone.
-pub fn kind_of<T>(answer: io::Result<T>) -> Result<T, ErrorKind> {
-    match answer {
+/// Returns `returned` with the kind of its error alone.
+pub fn kind_of<T>(returned: io::Result<T>) -> Result<T, ErrorKind> {
+    match returned {
         Ok(value) => Ok(value),
         Err(error) => Err(error.kind()),
     }
@@ -30,16 +30,16 @@ pub fn kind_of<T>(answer: io::Result<T>) -> Result<T, ErrorKind> {
 /// It records how often it was called, and the length of the last buffer.
 #[derive(Drop)]
 pub struct Device {
-    answer: Result<usize, ErrorKind>,
+    returned: Result<usize, ErrorKind>,
     calls: u64,
     asked: usize,
 }
 
 impl Device {
     /// Creates a device that was not called yet.
-    pub fn new(answer: Result<usize, ErrorKind>) -> Device {
+    pub fn new(returned: Result<usize, ErrorKind>) -> Device {
         Device {
-            answer,
+            returned,
             calls: 0,
             asked: 0,
         }
@@ -55,7 +55,7 @@ impl Device {
     {
         self.calls = self.calls.saturating_add(1);
         self.asked = asked;
-        match self.answer {
+        match self.returned {
             Ok(count) => Ok(count.min(asked)),
             Err(kind) => Err(io::Error::from(kind)),
         }

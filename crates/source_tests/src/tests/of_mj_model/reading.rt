@@ -27,12 +27,12 @@ static READS: [(
     ("fails and has no room", Err(TimedOut),  0, Err(TimedOut),    b"....", 0, 1),
 ];
 
-/// Returns whether a counted read into `room` bytes returns `answer`, and leaves `bytes` and
+/// Returns whether a counted read into `room` bytes returns `expected`, and leaves `bytes` and
 /// `counts`.
 fn is_read(
     given: Result<usize, ErrorKind>,
     room: usize,
-    answer: Result<usize, ErrorKind>,
+    expected: Result<usize, ErrorKind>,
     bytes: &[u8; 4],
     counts: (u64, u64),
 ) -> bool {
@@ -40,7 +40,7 @@ fn is_read(
     let length = buffer.len().min(room);
     let mut counted = Counted::new(Device::new(given));
     let got = kind_of(counted.read_counted(&mut buffer[..length]));
-    got == answer
+    got == expected
         && buffer == *bytes
         && counted.reads() == 1
         && (counted.ends(), counted.failures()) == counts
@@ -49,8 +49,8 @@ fn is_read(
 
 #[test]
 fn reads(rt: HostRuntime) {
-    for (what, given, room, answer, bytes, ends, failures) in &READS {
-        let same = is_read(*given, *room, *answer, bytes, (*ends, *failures));
+    for (what, given, room, expected, bytes, ends, failures) in &READS {
+        let same = is_read(*given, *room, *expected, bytes, (*ends, *failures));
         assert!(rt; same, "{what}");
     }
 }

@@ -26,26 +26,26 @@ static WRITES: [(
     ("fails and nothing to write", Err(TimedOut),   "",     Err(TimedOut),    1, false),
 ];
 
-/// Returns whether a counted write of `bytes` returns `answer`, counts `failures`, and leaves a
+/// Returns whether a counted write of `bytes` returns `expected`, counts `failures`, and leaves a
 /// flush due if `due`.
 fn is_written(
     given: Result<usize, ErrorKind>,
     bytes: &str,
-    answer: Result<usize, ErrorKind>,
+    expected: Result<usize, ErrorKind>,
     failures: u64,
     due: bool,
 ) -> bool {
     let mut counted = Counted::new(Device::new(given));
     let got = kind_of(counted.write_counted(bytes.as_bytes()));
-    got == answer
+    got == expected
         && (counted.failures(), counted.flushes(), counted.unflushed()) == (failures, 0, due)
         && counted.get_ref().was_asked(bytes.len())
 }
 
 #[test]
 fn writes(rt: HostRuntime) {
-    for (what, given, bytes, answer, failures, due) in &WRITES {
-        let same = is_written(*given, bytes, *answer, *failures, *due);
+    for (what, given, bytes, expected, failures, due) in &WRITES {
+        let same = is_written(*given, bytes, *expected, *failures, *due);
         assert!(rt; same, "{what}");
     }
 }
@@ -60,23 +60,23 @@ static FLUSHES: [(&str, Result<usize, ErrorKind>, Result<(), ErrorKind>, u64); 4
     ("out of memory", Err(OutOfMemory), Err(OutOfMemory), 1),
 ];
 
-/// Returns whether a counted flush returns `answer` and counts `failures`.
+/// Returns whether a counted flush returns `expected` and counts `failures`.
 fn is_flushed(
     given: Result<usize, ErrorKind>,
-    answer: Result<(), ErrorKind>,
+    expected: Result<(), ErrorKind>,
     failures: u64,
 ) -> bool {
     let mut counted = Counted::new(Device::new(given));
     let got = kind_of(counted.flush_counted());
-    got == answer
+    got == expected
         && (counted.failures(), counted.flushes(), counted.unflushed()) == (failures, 1, false)
         && counted.get_ref().was_asked(0)
 }
 
 #[test]
 fn flushes(rt: HostRuntime) {
-    for (what, given, answer, failures) in &FLUSHES {
-        assert!(rt; is_flushed(*given, *answer, *failures), "{what}");
+    for (what, given, expected, failures) in &FLUSHES {
+        assert!(rt; is_flushed(*given, *expected, *failures), "{what}");
     }
 }
 
@@ -103,11 +103,11 @@ fn plain_writes(rt: HostRuntime) {
 fn is_plain_flush(given: Result<usize, ErrorKind>) -> bool {
     let mut plain = Counted::new(Device::new(given));
     let got = kind_of(plain.flush());
-    let answer = match given {
+    let expected = match given {
         Ok(_count) => Ok(()),
         Err(kind) => Err(kind),
     };
-    got == answer && has_no_counts(&plain) && plain.get_ref().was_asked(0)
+    got == expected && has_no_counts(&plain) && plain.get_ref().was_asked(0)
 }
 
 #[test]

@@ -12,7 +12,7 @@ pub fn sample_segmenter(alloc: Global) -> Result<Segmenter, Fail> {
     Ok(Segmenter::load(
         alloc,
         ImageBytes::owned(compile(alloc, &sample())?.image),
-        DigestTest::Made,
+        DigestTest::Verified,
     )?)
 }
 

@@ -3,7 +3,7 @@ use Rattle.std.specs.Prelude.{chars}
 use Rattle.std.specs.Str.Iter.{chars_rest}
 use Rattle.mj_model.specs.Run.{bytes_of}
 use Rattle.image_format.specs.ImageMeaning.{image_tables}
-use Rattle.word_lookup.proofs.RunLemmas.{end, left_behind, stop, taken, turn}
+use Rattle.word_lookup.proofs.RunLemmas.{end, left_after, stop, taken, turn}
 use Rattle.word_lookup.proofs.run.run_up_to.Goals as goal
 
 pub returns-in_default-clause-characters : goal.returns-in_default-clause-characters
@@ -14,7 +14,7 @@ returns-in_default-clause-characters c =
 
 pub returns-in_default-clause-bytes : goal.returns-in_default-clause-bytes
 returns-in_default-clause-bytes c =
-    let before = left_behind c.args.text.now (chars_rest c.loop-characters.left) c.loop-characters.characters c.utf8.text c.loop-characters.invariant.at in
+    let before = left_after c.args.text.now (chars_rest c.loop-characters.left) c.loop-characters.characters c.utf8.text c.loop-characters.invariant.at in
     let bytes = before.bytes in
     let same = ap length c.as_str.ensures in
     omega (arith, bytes, same)
@@ -29,7 +29,7 @@ returns-then-not-shares-clause-characters c =
 
 pub returns-then-not-shares-clause-bytes : goal.returns-then-not-shares-clause-bytes
 returns-then-not-shares-clause-bytes c =
-    let before = left_behind c.args.text.now (chars_rest c.loop-characters.left) c.loop-characters.characters c.utf8.text c.loop-characters.invariant.at in
+    let before = left_after c.args.text.now (chars_rest c.loop-characters.left) c.loop-characters.characters c.utf8.text c.loop-characters.invariant.at in
     let bytes = before.bytes in
     let same = ap length c.as_str.ensures in
     omega (arith, bytes, same)
@@ -47,7 +47,7 @@ loop-characters-preserved c =
 pub returns-clause-bytes : goal.returns-clause-bytes
 returns-clause-bytes c =
     let limit_is : c.loop-characters.characters ≡ c.args.limit = search rules in
-    let before = left_behind c.args.text.now (chars_rest c.loop-characters.left) c.loop-characters.characters c.utf8.text c.loop-characters.invariant.at in
+    let before = left_after c.args.text.now (chars_rest c.loop-characters.left) c.loop-characters.characters c.utf8.text c.loop-characters.invariant.at in
     let bytes = before.bytes in
     let same = ap length c.as_str-2.ensures in
     let all = ap (λ (k : ℕ). bytes_of k (chars c.args.text.now)) limit_is in

@@ -2,7 +2,7 @@ use Rattle.std.proofs.Common.{◌≡◌, List, All, Bool, rules, length, drop, s
 use Rattle.std.specs.Prelude.{min}
 use Rattle.capi.specs.Nodes.{StartsIn, c_nodes}
 use Rattle.capi.specs.Outputs.{with_front}
-use Rattle.capi.proofs.NodeLemmas.{all_begin, marks_even, nodes_told}
+use Rattle.capi.proofs.NodeLemmas.{all_begin, marks_even, nodes_reported}
 use Rattle.viterbi.specs.declared.nodes.lattice_node.LatticeNode.{LatticeNode}
 use Rattle.word_lookup.specs.Overlays.{overlay_of}
 use Rattle.capi.proofs.nodes.CNodeCItem.write.Goals as goal
@@ -27,4 +27,4 @@ returns-clause-written c =
     let written = c.fill_nodes.ensures
     ∙ ap (λ (ns : List LatticeNode). with_front (drop c.min-from.result (c_nodes o l.text.now ns c.deref-2.result.now)) c.args.out.now) c.deref.ensures.value
     ∙ ap (λ (bs : List Bool). with_front (drop c.min-from.result (c_nodes o l.text.now lattice.nodes.items bs)) c.args.out.now) c.deref-2.ensures.value in
-    nodes_told c.args.segmenter.now l lattice c.in_ok-last.ensures.words c.in_ok-lattice.ensures.lattice c.args.first c.min-from.result _ c.args.out.now _ from written counts
+    nodes_reported c.args.segmenter.now l lattice c.in_ok-last.ensures.words c.in_ok-lattice.ensures.lattice c.args.first c.min-from.result _ c.args.out.now _ from written counts

@@ -1,12 +1,12 @@
 use Rattle.std.proofs.Common.{◌∙◌, sym, ap, ◌++◌, ◌∷◌, [], List}
 use Rattle.char_def.specs.declared.info_range.CategoryRange.{CategoryRange}
 use Rattle.char_def.specs.Definitions.{definitions_are}
-use Rattle.char_def.proofs.RangeLemmas.{ranges_begun, ranges_step, ranges_done}
+use Rattle.char_def.proofs.RangeLemmas.{ranges_started, ranges_step, ranges_done}
 use Rattle.char_def.proofs.char_table.CharTable.ranges.Goals as goal
 
 pub loop-step-init : goal.loop-step-init
 loop-step-init c =
-    ranges_begun (definitions_are c.self.inside.definitions.items) c.deref-step-items.result.now c.push.new.self.items c.info.result
+    ranges_started (definitions_are c.self.inside.definitions.items) c.deref-step-items.result.now c.push.new.self.items c.info.result
     (rw c.deref-step-items.ensures.value (rw (← c.self.view_is) at c.info.ensures.info))
     (c.in_ok-push.ensures.items ∙ ap (λ (ranges : List CategoryRange). ranges ++ record { first = 0; info = c.info.result } ∷ []) c.in_ok-ranges.ensures.items)
 

@@ -6,13 +6,13 @@ use Rattle.mj_model.specs.CharDef.{NamedCategory}
 use Rattle.image_format.specs.ImageMeaning.{image_categories}
 use Rattle.image_format.specs.ImageSections.{first_category}
 use Rattle.dict_image.specs.Categories.{HasFirst, HasCategoriesFirst, bytes_from}
-use Rattle.dict_image.proofs.CategoryLemmas.{below_count, category_of_image, fronts_of_image, whole_of_image}
+use Rattle.dict_image.proofs.CategoryLemmas.{below_count, category_of_image, category_prefixes_of_image, whole_of_image}
 use Rattle.dict_image.proofs.dict.Dict.category_name.Goals as goal
 
 pub from_category-requires : goal.from_category-requires
 from_category-requires c =
     let bytes = c.args.self.now in
-    subst (HasCategoriesFirst c.args.i) (sym c.section.ensures.section) (fronts_of_image bytes c.args.i c.section.ensures.formed (below_count bytes c.args.i c.requires))
+    subst (HasCategoriesFirst c.args.i) (sym c.section.ensures.section) (category_prefixes_of_image bytes c.args.i c.section.ensures.formed (below_count bytes c.args.i c.requires))
 
 pub name_of-requires-clause-first : goal.name_of-requires-clause-first
 name_of-requires-clause-first c =

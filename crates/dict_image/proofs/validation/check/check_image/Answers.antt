@@ -5,15 +5,15 @@ use Rattle.image_format.specs.ImageBytes.{section}
 use Rattle.image_format.specs.Layouts.{key_form}
 use Rattle.dict_image.specs.Validation.KeyPlaces.{AreKeysOf}
 use Rattle.dict_image.proofs.OutlineLemmas.{from_accepted}
-use Rattle.dict_image.proofs.NoMemoryLemmas.{front_takes_none, ends_take_none}
-use Rattle.dict_image.proofs.StageLemmas.{end_told, section_told, all_pass}
+use Rattle.dict_image.proofs.NoMemoryLemmas.{prefix_takes_none, ends_take_none}
+use Rattle.dict_image.proofs.StageLemmas.{end_reported, section_reported, all_pass}
 use Rattle.dict_image.specs.Validation.BeforeMemory.{PassToSystem}
 use Rattle.dict_image.proofs.validation.check.check_image.Goals as goal
 
 pub returns-in_err-ends-clause-rejected : goal.returns-in_err-ends-clause-rejected
 returns-in_err-ends-clause-rejected c =
     let p = err_from_is_err_and c.from_residual-in_err-ends.result c.from_residual-in_err-ends.ensures.1 in
-    rw (p.1, p.2) (inr (end_told c.args.digest c.args.bytes.now c.in_err-ends.field-0.0 c.in_ok-header.ensures.0 c.in_err-ends.ensures))
+    rw (p.1, p.2) (inr (end_reported c.args.digest c.args.bytes.now c.in_err-ends.field-0.0 c.in_ok-header.ensures.0 c.in_err-ends.ensures))
 
 pub returns-in_err-keys-clause-rejected : goal.returns-in_err-keys-clause-rejected
 returns-in_err-keys-clause-rejected c =
@@ -22,7 +22,7 @@ returns-in_err-keys-clause-rejected c =
     let fault = c.in_err-keys.field-0.0 in
     rw (p.1, p.2) (elim c.in_err-keys.ensures.outcome [
       | inl memory ↦ inl memory
-      | inr first ↦ inr (section_told c.args.digest c.args.bytes.now c.in_ok-header.header fault front.1 front.0 c.in_ok-ends.ensures.0 first)
+      | inr first ↦ inr (section_reported c.args.digest c.args.bytes.now c.in_ok-header.header fault front.1 front.0 c.in_ok-ends.ensures.0 first)
     ])
 
 pub returns-clause-accepted : goal.returns-clause-accepted
@@ -46,7 +46,7 @@ returns-clause-outline c =
 pub returns-in_err-header-clause-out_of_memory : goal.returns-in_err-header-clause-out_of_memory
 returns-in_err-header-clause-out_of_memory c =
     let p = err_from_is_err_and c.from_residual.result c.from_residual.ensures.1 in
-    rw (p.1, p.2) (λ memory. absurd (front_takes_none c.args.bytes.now c.in_err-header.field-0.0 memory c.in_err-header.ensures))
+    rw (p.1, p.2) (λ memory. absurd (prefix_takes_none c.args.bytes.now c.in_err-header.field-0.0 memory c.in_err-header.ensures))
 
 pub returns-in_err-ends-clause-out_of_memory : goal.returns-in_err-ends-clause-out_of_memory
 returns-in_err-ends-clause-out_of_memory c =

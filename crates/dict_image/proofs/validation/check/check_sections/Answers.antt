@@ -6,7 +6,7 @@ use Rattle.image_format.specs.ImageFaults.{Test, PassAll, IsFirstFault}
 use Rattle.image_format.specs.ImageFaults.{header_tests, system_tests, key_tests, token_tests}
 use Rattle.image_format.specs.Layouts.{key_form}
 use Rattle.dict_image.specs.Validation.KeyPlaces.{AreKeysOf}
-use Rattle.dict_image.proofs.StageLemmas.{pass_both, told_first, told_later, same_system, same_tokens}
+use Rattle.dict_image.proofs.StageLemmas.{pass_both, reported_first, reported_later, same_system, same_tokens}
 use Rattle.dict_image.proofs.NoMemoryLemmas.{header_takes_none, system_takes_none}
 use Rattle.dict_image.proofs.validation.check.check_sections.Goals as goal
 
@@ -15,7 +15,7 @@ returns-in_err-check_header-clause-outcome c =
     let h = c.args.header.now in
     let bytes = c.args.bytes.now in
     let p = err_from_is_err_and c.from_residual.result c.from_residual.ensures.1 in
-    rw (p.1, p.2) (inr (told_first (header_tests h) (system_tests h (section bytes 1) (section bytes 2) (section bytes 3) (section bytes 4) ++ (key_tests (key_form h.layout) h.groups (section bytes 5) ++ token_tests h (section bytes 6) (section bytes 7) (section bytes 8))) c.in_err-check_header.field-0.0 c.in_err-check_header.ensures))
+    rw (p.1, p.2) (inr (reported_first (header_tests h) (system_tests h (section bytes 1) (section bytes 2) (section bytes 3) (section bytes 4) ++ (key_tests (key_form h.layout) h.groups (section bytes 5) ++ token_tests h (section bytes 6) (section bytes 7) (section bytes 8))) c.in_err-check_header.field-0.0 c.in_err-check_header.ensures))
 
 pub returns-in_err-check_system-clause-outcome : goal.returns-in_err-check_system-clause-outcome
 returns-in_err-check_system-clause-outcome c =
@@ -24,7 +24,7 @@ returns-in_err-check_system-clause-outcome c =
     let p = err_from_is_err_and c.from_residual-in_err-check_system.result c.from_residual-in_err-check_system.ensures.1 in
     let fault = c.in_err-check_system.field-0.0 in
     let reported = subst (λ (tests : List Test). IsFirstFault tests fault) (same_system h c.section_bytes.result.now c.section_bytes-2.result.now c.section_bytes-3.result.now c.section_bytes-4.result.now (section bytes 1) (section bytes 2) (section bytes 3) (section bytes 4) c.section_bytes.ensures c.section_bytes-2.ensures c.section_bytes-3.ensures c.section_bytes-4.ensures) c.in_err-check_system.ensures in
-    rw (p.1, p.2) (inr (told_later (header_tests h) (system_tests h (section bytes 1) (section bytes 2) (section bytes 3) (section bytes 4) ++ (key_tests (key_form h.layout) h.groups (section bytes 5) ++ token_tests h (section bytes 6) (section bytes 7) (section bytes 8))) fault c.in_ok-check_header.ensures (told_first (system_tests h (section bytes 1) (section bytes 2) (section bytes 3) (section bytes 4)) (key_tests (key_form h.layout) h.groups (section bytes 5) ++ token_tests h (section bytes 6) (section bytes 7) (section bytes 8)) fault reported)))
+    rw (p.1, p.2) (inr (reported_later (header_tests h) (system_tests h (section bytes 1) (section bytes 2) (section bytes 3) (section bytes 4) ++ (key_tests (key_form h.layout) h.groups (section bytes 5) ++ token_tests h (section bytes 6) (section bytes 7) (section bytes 8))) fault c.in_ok-check_header.ensures (reported_first (system_tests h (section bytes 1) (section bytes 2) (section bytes 3) (section bytes 4)) (key_tests (key_form h.layout) h.groups (section bytes 5) ++ token_tests h (section bytes 6) (section bytes 7) (section bytes 8)) fault reported)))
 
 pub returns-in_err-keys-clause-outcome : goal.returns-in_err-keys-clause-outcome
 returns-in_err-keys-clause-outcome c =
@@ -36,7 +36,7 @@ returns-in_err-keys-clause-outcome c =
     let reported = subst (λ (tests : List Test). (fault ≡ Memory) ⊎ IsFirstFault tests fault) (ap (key_tests (key_form h.layout) h.groups) c.section_bytes-5.ensures) c.in_err-keys.ensures in
     rw (p.1, p.2) (elim reported [
       | inl memory ↦ inl memory
-      | inr first ↦ inr (told_later (header_tests h) (system_tests h (section bytes 1) (section bytes 2) (section bytes 3) (section bytes 4) ++ (key_tests (key_form h.layout) h.groups (section bytes 5) ++ token_tests h (section bytes 6) (section bytes 7) (section bytes 8))) fault c.in_ok-check_header.ensures (told_later (system_tests h (section bytes 1) (section bytes 2) (section bytes 3) (section bytes 4)) (key_tests (key_form h.layout) h.groups (section bytes 5) ++ token_tests h (section bytes 6) (section bytes 7) (section bytes 8)) fault system (told_first (key_tests (key_form h.layout) h.groups (section bytes 5)) (token_tests h (section bytes 6) (section bytes 7) (section bytes 8)) fault first)))
+      | inr first ↦ inr (reported_later (header_tests h) (system_tests h (section bytes 1) (section bytes 2) (section bytes 3) (section bytes 4) ++ (key_tests (key_form h.layout) h.groups (section bytes 5) ++ token_tests h (section bytes 6) (section bytes 7) (section bytes 8))) fault c.in_ok-check_header.ensures (reported_later (system_tests h (section bytes 1) (section bytes 2) (section bytes 3) (section bytes 4)) (key_tests (key_form h.layout) h.groups (section bytes 5) ++ token_tests h (section bytes 6) (section bytes 7) (section bytes 8)) fault system (reported_first (key_tests (key_form h.layout) h.groups (section bytes 5)) (token_tests h (section bytes 6) (section bytes 7) (section bytes 8)) fault first)))
     ])
 
 pub returns-in_err-check_tokens-clause-outcome : goal.returns-in_err-check_tokens-clause-outcome
@@ -50,7 +50,7 @@ returns-in_err-check_tokens-clause-outcome c =
     let reported = subst (λ (tests : List Test). (fault ≡ Memory) ⊎ IsFirstFault tests fault) (same_tokens h c.section_bytes-6.result.now c.section_bytes-7.result.now c.section_bytes-8.result.now (section bytes 6) (section bytes 7) (section bytes 8) c.section_bytes-6.ensures c.section_bytes-7.ensures c.section_bytes-8.ensures) c.in_err-check_tokens.ensures in
     rw (p.1, p.2) (elim reported [
       | inl memory ↦ inl memory
-      | inr first ↦ inr (told_later (header_tests h) (system_tests h (section bytes 1) (section bytes 2) (section bytes 3) (section bytes 4) ++ (key_tests (key_form h.layout) h.groups (section bytes 5) ++ token_tests h (section bytes 6) (section bytes 7) (section bytes 8))) fault c.in_ok-check_header.ensures (told_later (system_tests h (section bytes 1) (section bytes 2) (section bytes 3) (section bytes 4)) (key_tests (key_form h.layout) h.groups (section bytes 5) ++ token_tests h (section bytes 6) (section bytes 7) (section bytes 8)) fault system (told_later (key_tests (key_form h.layout) h.groups (section bytes 5)) (token_tests h (section bytes 6) (section bytes 7) (section bytes 8)) fault keys first)))
+      | inr first ↦ inr (reported_later (header_tests h) (system_tests h (section bytes 1) (section bytes 2) (section bytes 3) (section bytes 4) ++ (key_tests (key_form h.layout) h.groups (section bytes 5) ++ token_tests h (section bytes 6) (section bytes 7) (section bytes 8))) fault c.in_ok-check_header.ensures (reported_later (system_tests h (section bytes 1) (section bytes 2) (section bytes 3) (section bytes 4)) (key_tests (key_form h.layout) h.groups (section bytes 5) ++ token_tests h (section bytes 6) (section bytes 7) (section bytes 8)) fault system (reported_later (key_tests (key_form h.layout) h.groups (section bytes 5)) (token_tests h (section bytes 6) (section bytes 7) (section bytes 8)) fault keys first)))
     ])
 
 pub returns-clause-outcome : goal.returns-clause-outcome

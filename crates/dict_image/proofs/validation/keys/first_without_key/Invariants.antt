@@ -6,6 +6,6 @@ use Rattle.dict_image.proofs.validation.keys.first_without_key.Given as goal
 
 abbrev pub invariant-loop-group : goal.invariant-loop-group
 invariant-loop-group l = record {
-  fronts : AreKeyPrefixes (stored_cells l.cells.bytes.now) l.fronts.items;
+  prefixes : AreKeyPrefixes (stored_cells l.cells.bytes.now) l.prefixes.items;
   keys : (g : ℕ) → g < l.group → HasKey (stored_cells l.cells.bytes.now) g;
 }

@@ -6,10 +6,10 @@ use Rattle.dict_image.proofs.validation.keys.path_to_known.Given as goal
 
 abbrev pub invariant-loop-cell : goal.invariant-loop-cell
 invariant-loop-cell l = record {
-  few : length l.way.items ≤ SURFACE_MAX;
+  few : length l.path.items ≤ SURFACE_MAX;
   state : IsState (stored_cells l.cells.bytes.now) l.cell;
-  leads : LeadOn (stored_cells l.cells.bytes.now) l.cell (reverse l.way.items) l.state;
+  leads : LeadOn (stored_cells l.cells.bytes.now) l.cell (reverse l.path.items) l.state;
 }
 
 abbrev pub decreases-loop-cell : goal.decreases-loop-cell
-decreases-loop-cell l = SURFACE_MAX - length l.way.items
+decreases-loop-cell l = SURFACE_MAX - length l.path.items

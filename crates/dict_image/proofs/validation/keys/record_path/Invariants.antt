@@ -6,10 +6,10 @@ use Rattle.dict_image.proofs.validation.keys.record_path.Given as goal
 
 abbrev pub invariant-loop-next : goal.invariant-loop-next
 invariant-loop-next l = record {
-  fronts : AreKeyPrefixes (stored_cells l.cells.bytes.now) l.fronts;
-  front : IsKeyPrefixOf (stored_cells l.cells.bytes.now) l.cell l.front;
-  leads : (state : ℕ) → IsPathToKnown (stored_cells l.cells.bytes.now) state l.fn.way.items l.fn.known → LeadOn (stored_cells l.cells.bytes.now) l.cell (reverse l.way.items) state;
+  prefixes : AreKeyPrefixes (stored_cells l.cells.bytes.now) l.prefixes;
+  prefix : IsKeyPrefixOf (stored_cells l.cells.bytes.now) l.cell l.prefix;
+  leads : (state : ℕ) → IsPathToKnown (stored_cells l.cells.bytes.now) state l.fn.path.items l.fn.known → LeadOn (stored_cells l.cells.bytes.now) l.cell (reverse l.path.items) state;
 }
 
 abbrev pub decreases-loop-next : goal.decreases-loop-next
-decreases-loop-next l = length l.way.items
+decreases-loop-next l = length l.path.items

@@ -2,13 +2,13 @@ use Rattle.std.proofs.Common.{◌≡◌, ◌+◌, ℕ, suc, List, length, inr, s
 use Rattle.std.proofs.lemmas.List.{take_rest}
 use Rattle.image_format.specs.OlderSections.{first_key_in}
 use Rattle.dict_image.specs.Validation.KeyPlaces.{AreListedUpTo, IsKeyAbove}
-use Rattle.dict_image.proofs.StartLemmas.{all_listed, one_more, some_behind, told_key}
+use Rattle.dict_image.proofs.StartLemmas.{all_listed, one_more, some_after, reported_key}
 use Rattle.dict_image.proofs.validation.listed.starts_of.Goals as goal
 
 pub returns-in_default : goal.returns-in_default
 returns-in_default c =
     let none = subst (λ (xs : List ℕ). IsKeyAbove xs c.loop-group.before.now → ⊥) (take_rest c.args.keys.now c.loop-group.at) c.in_default.ensures in
-    inr (told_key c.args.keys.now c.args.groups c.loop-group.group c.loop-group.starts.items c.loop-group.at c.loop-group.before.now c.loop-group.invariant c.loop-group-test.true none)
+    inr (reported_key c.args.keys.now c.args.groups c.loop-group.group c.loop-group.starts.items c.loop-group.at c.loop-group.before.now c.loop-group.invariant c.loop-group-test.true none)
 
 pub loop-group-preserved : goal.loop-group-preserved
 loop-group-preserved c =
@@ -36,4 +36,4 @@ returns-else-at-keys c =
     let b = c.loop-group.auto.group-end in
     let e : c.loop-group.group ≡ c.args.groups = omega (arith, a, b) in
     let so_far = subst (λ (n : ℕ). AreListedUpTo c.args.keys.now n c.loop-group.starts.items c.loop-group.at c.loop-group.before.now) e c.loop-group.invariant in
-    inr (some_behind c.args.keys.now c.args.groups c.loop-group.starts.items c.loop-group.at c.loop-group.before.now so_far c.if-at-keys.false)
+    inr (some_after c.args.keys.now c.args.groups c.loop-group.starts.items c.loop-group.at c.loop-group.before.now so_far c.if-at-keys.false)

@@ -2,7 +2,7 @@ use Rattle.std.proofs.Common.{ℕ, ◌<◌, ◌-◌, List, length, take, drop, l
 use Rattle.std.proofs.lemmas.List.{take_rest}
 use Rattle.dict_image.specs.declared.ids_and_cost.IdsAndCost.{IdsAndCost}
 use Rattle.dictc_lib.specs.PairRows.{IsFirstRow}
-use Rattle.dictc_lib.proofs.PairLemmas.{behind_shorter, first_row}
+use Rattle.dictc_lib.proofs.PairLemmas.{after_shorter, first_row}
 use Rattle.dictc_lib.proofs.ids.pair_rows.first_row.Goals as goal
 
 pub returns-clause-row : goal.returns-clause-row
@@ -17,4 +17,4 @@ pub returns-clause-shorter : goal.returns-clause-shorter
 returns-clause-shorter c =
     let entries : List IdsAndCost = c.args.entries.now in
     let count : ℕ = c.count_of_pair-count.result in
-    behind_shorter entries (take (length entries - count) (drop count entries)) c.of.result (returns-clause-row c)
+    after_shorter entries (take (length entries - count) (drop count entries)) c.of.result (returns-clause-row c)

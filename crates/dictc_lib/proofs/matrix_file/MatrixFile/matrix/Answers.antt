@@ -6,14 +6,14 @@ use Rattle.mj_model.specs.FirstFault.{IsMemoryOr}
 use Rattle.mj_model.specs.declared.source_fault.SourceFault.{SourceFault}
 use Rattle.matrix_def.specs.Costs.{IsTableIn}
 use Rattle.matrix_def.specs.Reading.{IsReportedTable}
-use Rattle.matrix_def.proofs.NumberLemmas.{told_accepted}
+use Rattle.matrix_def.proofs.NumberLemmas.{reported_accepted}
 use Rattle.dictc_lib.proofs.MatrixFileLemmas.{meaning_of_prefix}
 use Rattle.dictc_lib.proofs.matrix_file.MatrixFile.matrix.Goals as goal
 
 pub returns-clause-accepted : goal.returns-clause-accepted
 returns-clause-accepted c = λ bytes read.
     let same = meaning_of_prefix bytes read.prefix read.remainder read.parts read.enough in
-    IfOk-weaker c.finish.result (IsReportedTable read.prefix) (IsTableIn bytes) (λ m is. (is.0, told_accepted bytes is.0 (same ∙ is.1), is.2))
+    IfOk-weaker c.finish.result (IsReportedTable read.prefix) (IsTableIn bytes) (λ m is. (is.0, reported_accepted bytes is.0 (same ∙ is.1), is.2))
     (c.finish.ensures.reported read.prefix read.received.read)
 
 pub returns-clause-rejected : goal.returns-clause-rejected

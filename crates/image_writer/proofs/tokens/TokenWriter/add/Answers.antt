@@ -6,7 +6,7 @@ use mir.Val.{SFits}
 use Rattle.mj_model.specs.Lexicon.{row_of}
 use Rattle.image_writer.specs.Sections.{IsNextUse, features_of}
 use Rattle.image_writer.specs.TokenBytes.{FitsBytes, stored_bytes, stored_with}
-use Rattle.image_writer.proofs.WriterLemmas.{front_too_large, next_use, token_written, record_too_large}
+use Rattle.image_writer.proofs.WriterLemmas.{prefix_too_large, next_use, token_written, record_too_large}
 use Rattle.image_writer.proofs.Results.{passed_on}
 use Rattle.image_writer.proofs.tokens.TokenWriter.add.Goals as goal
 
@@ -18,7 +18,7 @@ returns-in_err-place-clause-large c = λ all rows rest is written.
     let reported : c.first_of-first.result ≡ slice_index_or old.firsts.items c.len-number.result c.len-number.result = search rules in
     let next = subst (IsNextUse (features_of rows) row.feature) (sym reported) (next_use all rows rest row old.firsts.items c.len-number.result is written.firsts (number ∙ written.features.long)) in
     passed_on c.from_residual.result _ c.from_residual.ensures.1
-    (λ same. front_too_large all (rows ++ row ∷ []) rest is (record_too_large rows row (c.in_err-place.ensures.large (features_of rows) written.features next same)))
+    (λ same. prefix_too_large all (rows ++ row ∷ []) rest is (record_too_large rows row (c.in_err-place.ensures.large (features_of rows) written.features next same)))
 
 pub returns-clause-written : goal.returns-clause-written
 returns-clause-written c = λ all rows rest is written.

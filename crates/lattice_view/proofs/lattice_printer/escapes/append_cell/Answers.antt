@@ -1,6 +1,6 @@
 use Rattle.std.proofs.Common.{rules, ◌∙◌}
-use Rattle.word_lookup.proofs.AppendLemmas.{front_kept}
+use Rattle.word_lookup.proofs.AppendLemmas.{prefix_kept}
 use Rattle.lattice_view.proofs.lattice_printer.escapes.append_cell.Goals as goal
 
 pub returns-in_err-append_in_cell-clause-unchanged : goal.returns-in_err-append_in_cell-clause-unchanged
-returns-in_err-append_in_cell-clause-unchanged c = front_kept _ _ _ _ _ (search rules) (c.append_in_cell.ensures.unchanged ∙ c.loop-byte.invariant)
+returns-in_err-append_in_cell-clause-unchanged c = prefix_kept _ _ _ _ _ (search rules) (c.append_in_cell.ensures.unchanged ∙ c.loop-byte.invariant)

@@ -4,21 +4,21 @@ use Rattle.line_segmenter.specs.Segmenters.{FitOver}
 use Rattle.line_segmenter.specs.declared.fault.SegmentFault.{SegmentFault}
 use Rattle.line_segmenter.specs.declared.fault.SegmentFault.TheVariants.{Memory}
 use Rattle.line_segmenter.specs.Faults.{IsImage, PassesTestsBeforeKeys}
-use Rattle.line_segmenter.proofs.FaultLemmas.{add_refused, user_refused}
+use Rattle.line_segmenter.proofs.FaultLemmas.{add_rejected, user_rejected}
 use Rattle.line_segmenter.proofs.OverlayLemmas.{fits_if, none_added, still_so, user_added}
 use Rattle.line_segmenter.proofs.ResultLemmas.{each_err, on_ok}
-use Rattle.line_segmenter.proofs.OutOfMemoryLemmas.{load_starved, passes}
+use Rattle.line_segmenter.proofs.OutOfMemoryLemmas.{load_out_of_memory, passes}
 use Rattle.line_segmenter.proofs.owned_dictionaries.OwnedDictionaries.add.Goals as goal
 
 pub returns-in_err-user-clause-rejected : goal.returns-in_err-user-clause-rejected
 returns-in_err-user-clause-rejected c =
     let p = err_from_is_err_and c.from_residual.result c.from_residual.ensures.1 in
-    rw (p.1, p.2) (user_refused c.args.digest c.args.self.now c.args.image c.in_err-user.field-0.0 c.in_err-user.ensures.rejected)
+    rw (p.1, p.2) (user_rejected c.args.digest c.args.self.now c.args.image c.in_err-user.field-0.0 c.in_err-user.ensures.rejected)
 
 pub returns-in_err-user-clause-out_of_memory : goal.returns-in_err-user-clause-out_of_memory
 returns-in_err-user-clause-out_of_memory c =
     let p = err_from_is_err_and c.from_residual.result c.from_residual.ensures.1 in
-    rw (p.1, p.2) (load_starved c.args.digest c.args.image c.in_err-user.field-0.0 c.in_err-user.ensures.out_of_memory)
+    rw (p.1, p.2) (load_out_of_memory c.args.digest c.args.image c.in_err-user.field-0.0 c.in_err-user.ensures.out_of_memory)
 
 pub invariant_of-self : goal.invariant_of-self
 invariant_of-self c =
@@ -37,7 +37,7 @@ returns-clause-accepted c = on_ok c.add_checked.result (IsImage c.args.digest c.
 pub returns-clause-rejected : goal.returns-clause-rejected
 unfolding IsImage
 returns-clause-rejected c =
-    add_refused c.args.digest c.add_checked.result c.args.self.now c.args.image c.in_ok-user.ensures.accepted (rw (← c.self.view_is, ← c.in_ok-user.ensures.dict) c.add_checked.ensures.rejected)
+    add_rejected c.args.digest c.add_checked.result c.args.self.now c.args.image c.in_ok-user.ensures.accepted (rw (← c.self.view_is, ← c.in_ok-user.ensures.dict) c.add_checked.ensures.rejected)
 
 pub returns-clause-out_of_memory : goal.returns-clause-out_of_memory
 unfolding IsImage

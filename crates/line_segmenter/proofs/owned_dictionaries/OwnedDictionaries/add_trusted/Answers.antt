@@ -1,9 +1,9 @@
 use Rattle.std.proofs.Common.{◌∷◌, ◌++◌, []}
-use Rattle.image_format.specs.declared.digest_test.DigestTest.TheVariants.{Made}
+use Rattle.image_format.specs.declared.digest_test.DigestTest.TheVariants.{Verified}
 use Rattle.line_segmenter.specs.Segmenters.{FitOver}
 use Rattle.line_segmenter.specs.Faults.{IsImage}
 use Rattle.line_segmenter.specs.Trusted.{IsTrusted}
-use Rattle.line_segmenter.proofs.FaultLemmas.{add_refused}
+use Rattle.line_segmenter.proofs.FaultLemmas.{add_rejected}
 use Rattle.line_segmenter.proofs.OverlayLemmas.{fits_if, none_added, still_so, user_added}
 use Rattle.line_segmenter.proofs.ResultLemmas.{on_ok}
 use Rattle.line_segmenter.proofs.owned_dictionaries.OwnedDictionaries.add_trusted.Goals as goal
@@ -28,12 +28,12 @@ returns-clause-added c =
 
 pub returns-clause-accepted : goal.returns-clause-accepted
 unfolding IsImage IsTrusted
-returns-clause-accepted c = on_ok c.add_checked.result (IsImage Made c.args.image) c.requires.0
+returns-clause-accepted c = on_ok c.add_checked.result (IsImage Verified c.args.image) c.requires.0
 
 pub returns-clause-rejected : goal.returns-clause-rejected
 unfolding IsImage IsTrusted
 returns-clause-rejected c =
-    add_refused Made c.add_checked.result c.args.self.now c.args.image c.requires.0 (rw (← c.self.view_is, ← c.in_ok-user.ensures) c.add_checked.ensures.rejected)
+    add_rejected Verified c.add_checked.result c.args.self.now c.args.image c.requires.0 (rw (← c.self.view_is, ← c.in_ok-user.ensures) c.add_checked.ensures.rejected)
 
 pub returns-clause-unchanged : goal.returns-clause-unchanged
 returns-clause-unchanged c =

@@ -5,7 +5,7 @@ use Rattle.mj_model.specs.Lines.{source_lines}
 use Rattle.lex_source.specs.NonblankLines.{nonblank_lines}
 use Rattle.matrix_def.specs.Reading.{HasRead, IsTableFrom, ReaderView, IsStateAfter, reported_connection, reported_lines, reported_number}
 use Rattle.matrix_def.specs.Costs.{IsTableIn}
-use Rattle.matrix_def.proofs.NumberLemmas.{told_accepted}
+use Rattle.matrix_def.proofs.NumberLemmas.{reported_accepted}
 use Rattle.matrix_def.proofs.ReadingLemmas.{all_read}
 use Rattle.matrix_def.proofs.reader.MatrixReader.finish.Goals as goal
 
@@ -18,7 +18,7 @@ lies c bytes given =
 
 pub returns-clause-accepted : goal.returns-clause-accepted
 returns-clause-accepted c = λ bytes given.
-    IfOk-weaker c.matrix.result (IsTableFrom (nonblank_lines (reported_lines 1 (source_lines bytes)))) (IsTableIn bytes) (λ m is. (is.0, told_accepted bytes is.0 is.1, is.2))
+    IfOk-weaker c.matrix.result (IsTableFrom (nonblank_lines (reported_lines 1 (source_lines bytes)))) (IsTableIn bytes) (λ m is. (is.0, reported_accepted bytes is.0 is.1, is.2))
     (c.matrix.ensures.accepted (nonblank_lines (reported_lines 1 (source_lines bytes))) (lies c bytes given))
 
 pub returns-clause-rejected : goal.returns-clause-rejected

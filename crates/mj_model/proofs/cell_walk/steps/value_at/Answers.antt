@@ -3,7 +3,7 @@ use mir.Val.{SFits}
 use Rattle.std.specs.Option.{option_and_then}
 use Rattle.mj_model.specs.CellMap.{base, value_in}
 use Rattle.mj_model.proofs.ReadLemmas.{step_reads_at}
-use Rattle.mj_model.proofs.StepLemmas.{no_step, end_step, told_value, told_value_fits}
+use Rattle.mj_model.proofs.StepLemmas.{no_step, end_step, reported_value, reported_value_fits}
 use Rattle.mj_model.proofs.cell_walk.steps.value_at.Goals as goal
 
 pub returns-in_err-found-clause-value : goal.returns-in_err-found-clause-value
@@ -18,7 +18,7 @@ overflow_cast-result g c =
     let fits : SFits w32 c.in_ok-found.found.base = search rules in
     let found = c.in_ok-found.ensures.child in
     let e = end_step cells c.args.from.state c.args.from.base c.in_ok-found.found.base c.requires.cells c.requires.from.based found.0 found.1 in
-    told_value_fits c.in_ok-found.found.base e.0 e.1 fits
+    reported_value_fits c.in_ok-found.found.base e.0 e.1 fits
 
 pub returns-clause-value : goal.returns-clause-value
 returns-clause-value g c =
@@ -26,7 +26,7 @@ returns-clause-value g c =
     let fits : SFits w32 c.in_ok-found.found.base = search rules in
     let found = c.in_ok-found.ensures.child in
     let e = end_step cells c.args.from.state c.args.from.base c.in_ok-found.found.base c.requires.cells c.requires.from.based found.0 found.1 in
-    ap Some (told_value c.in_ok-found.found.base e.0 e.1 fits) ∙ sym e.2
+    ap Some (reported_value c.in_ok-found.found.base e.0 e.1 fits) ∙ sym e.2
 
 pub returns-in_err-found-clause-reads : goal.returns-in_err-found-clause-reads
 returns-in_err-found-clause-reads g c =

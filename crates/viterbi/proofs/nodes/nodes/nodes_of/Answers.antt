@@ -9,21 +9,21 @@ pub unwrap-total-requires : goal.unwrap-total-requires
 unwrap-total-requires c =
     let i = c.loop-i.i in
     let less = c.loop-i-test.true in
-    let long = c.requires.totals_long in
+    let long = c.requires.forward_long in
     total_is_some (get_or c.args.forward_costs.now i None) (c.requires.forward_costs i None (omega (arith, less, long)))
 
 pub node_of-requires-clause-total : goal.node_of-requires-clause-total
 node_of-requires-clause-total c =
     let i = c.loop-i.i in
     let less = c.loop-i-test.true in
-    let long = c.requires.totals_long in
+    let long = c.requires.forward_long in
     total_is_small (get_or c.args.forward_costs.now i None) c.unwrap-total.result (c.requires.forward_costs i None (omega (arith, less, long))) c.unwrap-total.ensures
 
 pub node_of-requires-clause-backward_cost : goal.node_of-requires-clause-backward_cost
 node_of-requires-clause-backward_cost c =
     let i = c.loop-i.i in
     let less = c.loop-i-test.true in
-    let long = c.requires.rests_long in
+    let long = c.requires.backward_long in
     c.requires.backward_costs i None (omega (arith, less, long))
 
 pub loop-i-init : goal.loop-i-init
@@ -33,16 +33,16 @@ pub loop-i-preserved : goal.loop-i-preserved
 loop-i-preserved c =
     let i = c.loop-i.i in
     let less = c.loop-i-test.true in
-    let totals_long = c.requires.totals_long in
-    let rests_long = c.requires.rests_long in
+    let forward_long = c.requires.forward_long in
+    let backward_long = c.requires.backward_long in
     let n = c.node_of.result in
     node_pushed c.args.words.now c.args.forward_costs.now c.args.backward_costs.now i c.loop-i.nodes.items c.push.new.self.items n c.in_ok-push.ensures.items
     (record {
       total = c.unwrap-total.result;
-      rest = get_or c.args.backward_costs.now i None;
+      backward = get_or c.args.backward_costs.now i None;
       word_here = slice_get-get_or c.args.words.now i no_word less ∙ ap Some (sym c.node_of.ensures.word);
-      total_here = slice_get-get_or c.args.forward_costs.now i None (omega (arith, less, totals_long)) ∙ ap Some c.unwrap-total.ensures;
-      rest_here = slice_get-get_or c.args.backward_costs.now i None (omega (arith, less, rests_long));
+      total_here = slice_get-get_or c.args.forward_costs.now i None (omega (arith, less, forward_long)) ∙ ap Some c.unwrap-total.ensures;
+      backward_here = slice_get-get_or c.args.backward_costs.now i None (omega (arith, less, backward_long));
       total_is = c.node_of.ensures.total;
       through_is = c.node_of.ensures.through;
     }) c.loop-i.invariant

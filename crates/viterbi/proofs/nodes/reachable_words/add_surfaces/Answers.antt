@@ -32,7 +32,7 @@ loop-number-preserved g c =
     let some = whole.some in
     let same = c.loop-number.auto.marks in
     let marked = marks_more c.loop-number.words.items (t.surface_words s) c.loop-number.marks s.end c.loop-number.invariant.marked (omega (arith, end, same, c.requires.long))
-    (λ j w at. (holds_in (HasSameSpan s) (t.surface_words s) j w whole.stand at).end) (omega (arith, count, some)) in
+    (λ j w at. (holds_in (HasSameSpan s) (t.surface_words s) j w whole.same_spans at).end) (omega (arith, count, some)) in
     record {
       joined = surfaces_more t.surface_words surfaces number no_surface c.args.words.now.items c.loop-number.words.items c.add_words.new.words.items less c.loop-number.invariant.joined c.in_ok-add_words.ensures;
       marked = subst (λ (xs : List Word). AreMarked xs (set c.loop-number.marks s.end true)) (sym c.in_ok-add_words.ensures) marked;

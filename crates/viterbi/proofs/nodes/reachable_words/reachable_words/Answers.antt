@@ -13,7 +13,7 @@ loop-place-init g c =
     let marks = set before 0 true in
     let none = collected_none t c.requires before marks long
     (λ k less. subst (λ (xs : List Bool). get_or xs k true ≡ false) (sym c.as_mut_slice-marks.ensures.value)
-    (c.in_ok-resize.ensures.by_index.1 k true refl (omega (arith, c.new-is_predecessor.ensures.len)) (omega (arith, less, c.length-length.ensures))))
+    (c.in_ok-resize.ensures.by_index.1 k true refl (omega (arith, c.new-reachable.ensures.len)) (omega (arith, less, c.length-length.ensures))))
     refl in
     record {
       reached = subst (λ (ws : List Word). IsReachedTo t 0 ws c.new-2.result.items marks) (sym c.new.ensures.items)

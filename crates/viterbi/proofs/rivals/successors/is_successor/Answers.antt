@@ -12,5 +12,5 @@ returns c =
     let b = c.next_step-step.ensures.total in
     let f = c.total_of.ensures in (
       λ yes_it_is. let same = ap (λ (x : Total). x.cost) (e.0 yes_it_is) in omega (arith, ints, same, b, f, h),
-      λ sum. let costs : c.args.rest.now.cost ≡ c.total_of.result.cost = omega (arith, ints, sum, b, f, h) in e.1 (ap the_total costs),
+      λ sum. let costs : c.args.backward.now.cost ≡ c.total_of.result.cost = omega (arith, ints, sum, b, f, h) in e.1 (ap the_total costs),
     )

@@ -1,18 +1,18 @@
 use Rattle.std.proofs.Common.{◌≡◌, ◌∙◌, true, false, sym, arith}
 use Rattle.std.proofs.lemmas.Int.{ints}
 use Rattle.std.proofs.lemmas.Option.{same_Some}
-use Rattle.viterbi.proofs.TotalsLemmas.{rest_some, rest_small}
+use Rattle.viterbi.proofs.TotalsLemmas.{backward_some, backward_small}
 use Rattle.viterbi.proofs.rivals.successors.successor_to.Goals as goal
 
 pub is_successor-requires : goal.is_successor-requires
-is_successor-requires g c = rest_small c.args.next.now c.requires.next c.in_ok-further.further (sym c.backward_cost_at-2.ensures ∙ c.in_ok-further.was)
+is_successor-requires g c = backward_small c.args.next.now c.requires.next c.in_ok-further.further (sym c.backward_cost_at-2.ensures ∙ c.in_ok-further.was)
 
 pub returns-then-is_successor : goal.returns-then-is_successor
 returns-then-is_successor g c =
     let n = c.args.node.now in
     let m = c.args.next.now in
-    let p = rest_some n.total n.through c.in_ok-rest.rest (sym c.backward_cost_at.ensures ∙ c.in_ok-rest.was) in
-    let q = rest_some m.total m.through c.in_ok-further.further (sym c.backward_cost_at-2.ensures ∙ c.in_ok-further.was) in
+    let p = backward_some n.total n.through c.in_ok-backward.backward (sym c.backward_cost_at.ensures ∙ c.in_ok-backward.was) in
+    let q = backward_some m.total m.through c.in_ok-further.further (sym c.backward_cost_at-2.ensures ∙ c.in_ok-further.was) in
     let link = c.neighbor_between-link.ensures in
     let same = c.is_successor.ensures.0 c.if-is_successor.true in
     let a = p.2 in
@@ -27,8 +27,8 @@ pub returns : goal.returns
 returns g c = λ leaves.
     let n = c.args.node.now in
     let m = c.args.next.now in
-    let p = rest_some n.total n.through c.in_ok-rest.rest (sym c.backward_cost_at.ensures ∙ c.in_ok-rest.was) in
-    let q = rest_some m.total m.through c.in_ok-further.further (sym c.backward_cost_at-2.ensures ∙ c.in_ok-further.was) in
+    let p = backward_some n.total n.through c.in_ok-backward.backward (sym c.backward_cost_at.ensures ∙ c.in_ok-backward.was) in
+    let q = backward_some m.total m.through c.in_ok-further.further (sym c.backward_cost_at-2.ensures ∙ c.in_ok-further.was) in
     let cost : leaves.cost ≡ p.0 = same_Some leaves.cost p.0 (sym leaves.has_cost ∙ p.1) in
     let through : leaves.through ≡ q.0 = same_Some leaves.through q.0 (sym leaves.has_through ∙ q.1) in
     let sum = leaves.same in

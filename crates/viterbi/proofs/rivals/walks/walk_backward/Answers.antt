@@ -46,8 +46,8 @@ step-requires-in-Some-clause-number c =
     let linked = c.args.linked.now in
     let other = c.other.ensures.some c.in-Some.node c.in-Some.is in
     let low = slice_get_within linked.on_best.items c.in-Some.node false other.1 in
-    let reported = c.requires.neighbors.reported in
-    omega (arith, low, reported)
+    let on_best_long = c.requires.neighbors.on_best_long in
+    omega (arith, low, on_best_long)
 
 pub loop-node-preserved : goal.loop-node-preserved
 loop-node-preserved c =
@@ -62,12 +62,12 @@ loop-node-preserved c =
     let k = c.in-Some.node in
     let other = c.other.ensures.some k c.in-Some.is in
     let low = slice_get_within linked.on_best.items k false other.1 in
-    let reported = c.requires.neighbors.reported in
+    let on_best_long = c.requires.neighbors.on_best_long in
     let few = c.if-len-gt-STEPS_MAX.false in
     let s = c.step-in-Some.result in
     let pushed = c.in_ok-push-2.ensures.items in
     record {
-      within = omega (arith, low, reported);
+      within = omega (arith, low, on_best_long);
       few = subst (λ (xs : List PathStep). length xs ≤ STEPS_MAX + 1) (sym pushed) (omega (arith, few, c.len.ensures, ok.0, length_push steps.items s));
       so_far = λ words conn len best n are here.
           back_on words conn len best linked are n at steps.items (c.loop-node.invariant.so_far words conn len best n are here) link at_link c.other.result c.other.ensures k s c.push-in-Some.new.self.items c.in-Some.is pushed c.step-in-Some.ensures;

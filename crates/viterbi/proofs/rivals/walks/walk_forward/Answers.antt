@@ -48,7 +48,7 @@ loop-node-preserved c =
     let k = c.in-Some.node in
     let other = c.other.ensures.some k c.in-Some.is in
     let low = slice_get_within linked.on_best.items k false other.1 in
-    let reported = c.requires.neighbors.reported in
+    let on_best_long = c.requires.neighbors.on_best_long in
     let few = c.if-len-ge-STEPS_MAX.false in
     let s = c.step_on-step.result in
     let near = c.step_on-step.ensures.bounded in
@@ -57,7 +57,7 @@ loop-node-preserved c =
     let more = length_push steps.items s in
     let sum = c.total_of-total.ensures in
     record {
-      within = omega (arith, low, reported);
+      within = omega (arith, low, on_best_long);
       few = subst (λ (xs : List PathStep). length xs ≤ STEPS_MAX) (sym pushed) (omega (arith, few, c.len.ensures, ok.0, more));
       small = subst (λ (xs : List PathStep). IsWithin (2 ^ 40 + 2 ^ 16 * length xs) c.total_of-total.result.cost) (sym pushed) (omega (arith, ints, small.0, near.0, more, sum), omega (arith, ints, small.1, near.1, more, sum));
       so_far = λ words conn len best n cost are here through.
@@ -69,8 +69,8 @@ step_on-step-requires-clause-next c =
     let linked = c.args.linked.now in
     let other = c.other.ensures.some c.in-Some.node c.in-Some.is in
     let low = slice_get_within linked.on_best.items c.in-Some.node false other.1 in
-    let reported = c.requires.neighbors.reported in
-    omega (arith, low, reported)
+    let on_best_long = c.requires.neighbors.on_best_long in
+    omega (arith, low, on_best_long)
 
 pub step_on-step-requires-clause-total : goal.step_on-step-requires-clause-total
 step_on-step-requires-clause-total c =

@@ -27,7 +27,7 @@ backtrace_numbers-requires-clause-from g c =
     let back = c.in_ok-found.ensures in
     let all = c.requires.stored.all in
     let long = nodes_length words ns.backpointers.items (omega (arith, all)) in
-    subst (λ (o : Option ℕ). IsBelow o (length c.deref.result.now)) (sym c.linked.ensures)
+    subst (λ (o : Option ℕ). IsBelow o (length c.deref.result.now)) (sym c.from_one_based.ensures)
     (subst (IsBelow (link_of c.in_ok-found.found.before)) (long ∙ ap length (sym c.deref.ensures.value)) (below_all (stored_nodes t ns) (link_of c.in_ok-found.found.before) back.chain back.traced))
 
 pub returns-clause-nodes : goal.returns-clause-nodes
@@ -41,10 +41,10 @@ returns-clause-nodes g c =
     let back = c.in_ok-found.ensures in
     let all = c.requires.stored.all in
     let long = nodes_length words backpointers (omega (arith, all)) in
-    let numbers : AreBacktraceNumbers backpointers link js = subst (λ (o : Option ℕ). AreBacktraceNumbers backpointers o js) c.linked.ensures (subst (λ (bs : List Backpointer). AreBacktraceNumbers bs c.linked.result js) c.deref.ensures.value c.in_ok-backtrace_numbers.ensures) in
+    let numbers : AreBacktraceNumbers backpointers link js = subst (λ (o : Option ℕ). AreBacktraceNumbers backpointers o js) c.from_one_based.ensures (subst (λ (bs : List Backpointer). AreBacktraceNumbers bs c.from_one_based.result js) c.deref.ensures.value c.in_ok-backtrace_numbers.ensures) in
     let links = links_kept words backpointers all (λ i n at. (c.requires.lattice.lattice.best i n at).below) in
     let below = subst (IsBelow link) long (below_all (stored_nodes t ns) link back.chain back.traced) in
-    nodes_from_start t.surface_words ns.by_surface.items backpointers link js c.requires.stored.bundles_are all links below numbers
+    nodes_from_start t.surface_words ns.by_surface.items backpointers link js c.requires.stored.groups_are all links below numbers
 
 pub returns-clause-best : goal.returns-clause-best
 returns-clause-best g c =
@@ -55,7 +55,7 @@ returns-clause-best g c =
     let js = c.backtrace_numbers.new.numbers.items in
     let link = link_of c.in_ok-found.found.before in
     let back = c.in_ok-found.ensures in
-    let numbers : AreBacktraceNumbers backpointers link js = subst (λ (o : Option ℕ). AreBacktraceNumbers backpointers o js) c.linked.ensures (subst (λ (bs : List Backpointer). AreBacktraceNumbers bs c.linked.result js) c.deref.ensures.value c.in_ok-backtrace_numbers.ensures) in
+    let numbers : AreBacktraceNumbers backpointers link js = subst (λ (o : Option ℕ). AreBacktraceNumbers backpointers o js) c.from_one_based.ensures (subst (λ (bs : List Backpointer). AreBacktraceNumbers bs c.from_one_based.result js) c.deref.ensures.value c.in_ok-backtrace_numbers.ensures) in
     let is = numbers_traced words backpointers link back.chain js back.traced numbers in
     subst (IsBestIn t) (sym (ap reverse is)) back.best
 
@@ -69,7 +69,7 @@ returns-clause-total g c =
     let found = c.in_ok-found.found in
     let link = link_of found.before in
     let back = c.in_ok-found.ensures in
-    let numbers : AreBacktraceNumbers backpointers link js = subst (λ (o : Option ℕ). AreBacktraceNumbers backpointers o js) c.linked.ensures (subst (λ (bs : List Backpointer). AreBacktraceNumbers bs c.linked.result js) c.deref.ensures.value c.in_ok-backtrace_numbers.ensures) in
+    let numbers : AreBacktraceNumbers backpointers link js = subst (λ (o : Option ℕ). AreBacktraceNumbers backpointers o js) c.from_one_based.ensures (subst (λ (bs : List Backpointer). AreBacktraceNumbers bs c.from_one_based.result js) c.deref.ensures.value c.in_ok-backtrace_numbers.ensures) in
     let is = numbers_traced words backpointers link back.chain js back.traced numbers in
     let fits : SFits w64 found.cost = search rules in
     to_z-of_z w64 found.cost fits ∙ back.cost ∙ ap (λ (vs : List Word). cost_of t (reverse vs)) (sym is)

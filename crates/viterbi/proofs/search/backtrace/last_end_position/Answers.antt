@@ -4,28 +4,28 @@ use Rattle.std.proofs.lemmas.Option.{same_Some, slice_get-get_or}
 use Rattle.viterbi.specs.Search.Nodes.{HaveNoHead}
 use Rattle.viterbi.proofs.search.backtrace.last_end_position.Goals as goal
 
-pub returns-then-heads-next_ones-gt0 : goal.returns-then-heads-next_ones-gt0
-returns-then-heads-next_ones-gt0 c =
+pub returns-then-heads-end-gt0 : goal.returns-then-heads-end-gt0
+returns-then-heads-end-gt0 c =
     let heads = c.args.heads.now in
-    let last = c.loop-next_ones.next_ones - 1 in
-    let more = c.loop-next_ones-test.true in
-    let low = c.loop-next_ones.invariant.within in
-    let next : c.loop-next_ones.next_ones ≡ last + 1 = omega (arith, more) in
+    let last = c.loop-end.end - 1 in
+    let more = c.loop-end-test.true in
+    let low = c.loop-end.invariant.within in
+    let next : c.loop-end.end ≡ last + 1 = omega (arith, more) in
     let at = slice_get-get_or heads last 0 (omega (arith, next, low)) in
-    let some = c.if-heads-next_ones-gt0.true in
+    let some = c.if-heads-end-gt0.true in
     let head = slice_index_or heads last 0 in
     record {
-      none_later = subst (HaveNoHead heads) next c.loop-next_ones.invariant.none_later;
+      none_later = subst (HaveNoHead heads) next c.loop-end.invariant.none_later;
       reached = inr (head - 1, at ∙ ap Some (omega (arith, some)));
     }
 
-pub loop-next_ones-preserved : goal.loop-next_ones-preserved
-loop-next_ones-preserved c =
+pub loop-end-preserved : goal.loop-end-preserved
+loop-end-preserved c =
     let heads = c.args.heads.now in
-    let last = c.loop-next_ones.next_ones - 1 in
-    let more = c.loop-next_ones-test.true in
-    let low = c.loop-next_ones.invariant.within in
-    let none = c.if-heads-next_ones-gt0.false in
+    let last = c.loop-end.end - 1 in
+    let more = c.loop-end-test.true in
+    let low = c.loop-end.invariant.within in
+    let none = c.if-heads-end-gt0.false in
     record {
       within = omega (arith, low);
       none_later = λ place head from at. elim (cases_eq place last) [
@@ -33,6 +33,6 @@ loop-next_ones-preserved c =
             let here = slice_get-get_or heads last 0 (omega (arith, more, low)) in
             let is = same_Some head (slice_index_or heads last 0) (sym at ∙ ap (slice_get heads) same ∙ here) in
             omega (arith, is, none)
-        | inr other ↦ c.loop-next_ones.invariant.none_later place head (omega (arith, from, other, more)) at
+        | inr other ↦ c.loop-end.invariant.none_later place head (omega (arith, from, other, more)) at
       ];
     }

@@ -24,7 +24,7 @@ surfaces_at-requires-clause-place g c =
     let head = slice_index_or heads c.args.place 0 in
     let at = slice_get-get_or heads c.args.place 0 within in
     reached_place l.kept t.connection t.text_length l.pruned.searched.source
-    t.is_place t.surface_words nodes.by_surface.items nodes.backpointers.items heads c.args.place (length (l.kept c.args.place)) c.args.place head l.pruned.searched.places kept.bundles_are kept.all l.lattice kept.linked at c.requires.reached
+    t.is_place t.surface_words nodes.by_surface.items nodes.backpointers.items heads c.args.place (length (l.kept c.args.place)) c.args.place head l.pruned.searched.places kept.groups_are kept.all l.lattice kept.linked at c.requires.reached
 
 pub prune-requires : goal.prune-requires
 prune-requires g c =
@@ -41,7 +41,7 @@ prune-requires g c =
     let grown = c.in_ok-surfaces_at.ensures.appended in
     let are = subst (AreSurfacesAt t c.args.place) (sym (grown.2 ∙ ap (λ (xs : List Surface). xs ++ grown.0) c.clear.ensures.items)) grown.1 in
     let some = some_left all ends c.in_ok-prune_ends.ensures.left
-    (some_reached t.surface_words nodes.by_surface.items nodes.backpointers.items c.args.place (length nodes.by_surface.items) head all kept.bundles_are kept.all c.requires.reached
+    (some_reached t.surface_words nodes.by_surface.items nodes.backpointers.items c.args.place (length nodes.by_surface.items) head all kept.groups_are kept.all c.requires.reached
     (kept.linked.heads_latest c.args.place head at) c.in_ok-collect_end_nodes.ensures) in
     let best : AreBestEndNodes (stored_nodes t nodes) c.args.place ends = record { all = all; are = c.in_ok-collect_end_nodes.ensures; left = c.in_ok-prune_ends.ensures.left } in
     subst (λ (xs : List EndNode). CanBePrunedAll t xs c.surfaces_at.new.out.items) (sym c.deref.ensures.value)
@@ -64,7 +64,7 @@ add_surfaces-requires-clause-none_added g c =
     let grown = c.in_ok-surfaces_at.ensures.appended in
     let are = subst (AreSurfacesAt t c.args.place) (sym (grown.2 ∙ ap (λ (xs : List Surface). xs ++ grown.0) c.clear.ensures.items)) grown.1 in
     let some = some_left all ends c.in_ok-prune_ends.ensures.left
-    (some_reached t.surface_words nodes.by_surface.items nodes.backpointers.items c.args.place (length nodes.by_surface.items) head all kept.bundles_are kept.all c.requires.reached
+    (some_reached t.surface_words nodes.by_surface.items nodes.backpointers.items c.args.place (length nodes.by_surface.items) head all kept.groups_are kept.all c.requires.reached
     (kept.linked.heads_latest c.args.place head at) c.in_ok-collect_end_nodes.ensures) in
     let best : AreBestEndNodes (stored_nodes t nodes) c.args.place ends = record { all = all; are = c.in_ok-collect_end_nodes.ensures; left = c.in_ok-prune_ends.ensures.left } in
     let pruned = subst (λ (xs : List EndNode). ArePrunedSurfaces t xs old new) c.deref.ensures.value c.in_ok-prune.ensures in
@@ -88,7 +88,7 @@ add_surfaces-requires-2-clause-none_added g c =
     let grown = c.in_ok-surfaces_at.ensures.appended in
     let are = subst (AreSurfacesAt t c.args.place) (sym (grown.2 ∙ ap (λ (xs : List Surface). xs ++ grown.0) c.clear.ensures.items)) grown.1 in
     let some = some_left all ends c.in_ok-prune_ends.ensures.left
-    (some_reached t.surface_words nodes.by_surface.items nodes.backpointers.items c.args.place (length nodes.by_surface.items) head all kept.bundles_are kept.all c.requires.reached
+    (some_reached t.surface_words nodes.by_surface.items nodes.backpointers.items c.args.place (length nodes.by_surface.items) head all kept.groups_are kept.all c.requires.reached
     (kept.linked.heads_latest c.args.place head at) c.in_ok-collect_end_nodes.ensures) in
     let best : AreBestEndNodes (stored_nodes t nodes) c.args.place ends = record { all = all; are = c.in_ok-collect_end_nodes.ensures; left = c.in_ok-prune_ends.ensures.left } in
     let pruned = subst (λ (xs : List EndNode). ArePrunedSurfaces t xs old new) c.deref.ensures.value c.in_ok-prune.ensures in

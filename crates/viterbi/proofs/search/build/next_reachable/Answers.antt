@@ -29,7 +29,7 @@ loop-place-preserved g c =
       kept = l.kept;
       pruned = kept_on t place (place + 1) l.kept (omega arith) l.pruned;
       lattice = not_reached l.kept t.connection t.text_length l.pruned.searched.source
-          t.surface_words nodes.by_surface.items nodes.backpointers.items heads place (slice_index_or heads place 0) kept.bundles_are kept.all l.lattice kept.linked (slice_get-get_or heads place 0 within) none;
+          t.surface_words nodes.by_surface.items nodes.backpointers.items heads place (slice_index_or heads place 0) kept.groups_are kept.all l.lattice kept.linked (slice_get-get_or heads place 0 within) none;
     }
 
 pub returns-clause-lattice : goal.returns-clause-lattice

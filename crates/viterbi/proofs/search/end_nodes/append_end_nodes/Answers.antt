@@ -3,9 +3,9 @@ use Rattle.std.proofs.lemmas.Option.{slice_get-get_or}
 use Rattle.viterbi.specs.Search.EndNodes.{AreEndNodesOf}
 use Rattle.viterbi.specs.Search.Nodes.{stored_node, node_words}
 use Rattle.viterbi.specs.Search.SearchedText.{nodes_in}
-use Rattle.viterbi.proofs.EndNodeLemmas.{stand_next}
+use Rattle.viterbi.proofs.EndNodeLemmas.{appear_next}
 use Rattle.viterbi.proofs.Pushed.{get_from_Contains}
-use Rattle.viterbi.proofs.SurfaceNodeLemmas.{no_back, node_of_bundle, bundle_within, bundle_word, word_stands}
+use Rattle.viterbi.proofs.SurfaceNodeLemmas.{no_back, node_of_group, group_within, group_word, word_appears}
 use Rattle.viterbi.proofs.WordNumbers.{no_word}
 use Rattle.viterbi.proofs.search.end_nodes.append_end_nodes.Goals as goal
 
@@ -13,15 +13,15 @@ pub overflow_add-number : goal.overflow_add-number
 overflow_add-number g c =
     let t = g.S.WordSource.searched_text c.args.source.now in
     let at = get_from_Contains c.args.by_surface.now c.args.surface_nodes.now c.requires.surface_nodes in
-    let within = bundle_within t.surface_words c.args.by_surface.now c.requires.by_surface at.0 c.args.surface_nodes.now at.1 in
+    let within = group_within t.surface_words c.args.by_surface.now c.requires.by_surface at.0 c.args.surface_nodes.now at.1 in
     omega (arith, within, c.requires.all)
 
 pub loop-number-init : goal.loop-number-init
 loop-number-init g c =
     let t = g.S.WordSource.searched_text c.args.source.now in
     let at = get_from_Contains c.args.by_surface.now c.args.surface_nodes.now c.requires.surface_nodes in
-    let within = bundle_within t.surface_words c.args.by_surface.now c.requires.by_surface at.0 c.args.surface_nodes.now at.1 in
-    record { next_ones = omega arith; within = omega arith; among = omega (arith, within, c.requires.all); stand = c.requires.later }
+    let within = group_within t.surface_words c.args.by_surface.now c.requires.by_surface at.0 c.args.surface_nodes.now at.1 in
+    record { next_ones = omega arith; within = omega arith; among = omega (arith, within, c.requires.all); appear = c.requires.later }
 
 pub loop-number-preserved : goal.loop-number-preserved
 loop-number-preserved g c =
@@ -43,10 +43,10 @@ loop-number-preserved g c =
     let word = get_or words (surface_nodes.surface.count - 1 - left) no_word in
     let at_word = slice_get-get_or words (surface_nodes.surface.count - 1 - left) no_word (omega (arith, less, count)) in
     let n = stored_node word (get_or backpointers i no_back) in
-    let here = subst (λ (k : ℕ). slice_get (nodes_in t by_surface backpointers) k ≡ Some (stored_node word (get_or backpointers k no_back))) is (node_of_bundle t.surface_words by_surface c.requires.by_surface backpointers c.requires.all at.0 surface_nodes left word no_back at.1 less at_word) in
-    let there = word_stands t.surface_words by_surface c.requires.by_surface at.0 surface_nodes (surface_nodes.surface.count - 1 - left) word at.1 at_word in
+    let here = subst (λ (k : ℕ). slice_get (nodes_in t by_surface backpointers) k ≡ Some (stored_node word (get_or backpointers k no_back))) is (node_of_group t.surface_words by_surface c.requires.by_surface backpointers c.requires.all at.0 surface_nodes left word no_back at.1 less at_word) in
+    let there = word_appears t.surface_words by_surface c.requires.by_surface at.0 surface_nodes (surface_nodes.surface.count - 1 - left) word at.1 at_word in
     let kept = slice_get-get_or backpointers i no_back (omega (arith, among, some)) in
-    let its = subst (λ (k : ℕ). slice_get (node_words t.surface_words by_surface) k ≡ Some word) is (bundle_word t.surface_words by_surface c.requires.by_surface at.0 surface_nodes left word at.1 less at_word) in
+    let its = subst (λ (k : ℕ). slice_get (node_words t.surface_words by_surface) k ≡ Some word) is (group_word t.surface_words by_surface c.requires.by_surface at.0 surface_nodes left word at.1 less at_word) in
     let right = c.requires.rights i word (get_or backpointers i no_back) its kept in
     let same : c.loop-number.number ≡ i + 1 = omega (arith, some) in
     let next : i + 1 ≡ suc i = omega arith in
@@ -54,8 +54,8 @@ loop-number-preserved g c =
       next_ones = omega (arith, some);
       within = omega (arith, low);
       among = omega (arith, among);
-      stand = stand_next (nodes_in t by_surface backpointers) surface_nodes.surface.end c.loop-number.ends.items c.push.new.self.items i n c.node_end_node.result here there (c.node_end_node.ensures ∙ ap (λ (b : ℕ). record { total = (get_or backpointers i no_back).total; before = b; right = (get_or backpointers i no_back).right }) next ∙ ap (λ (r : ℕ). record { total = (get_or backpointers i no_back).total; before = suc i; right = r }) right) c.in_ok-push.ensures.items
-          (subst (λ (k : ℕ). AreEndNodesOf (nodes_in t by_surface backpointers) surface_nodes.surface.end k c.loop-number.ends.items) same c.loop-number.invariant.stand);
+      appear = appear_next (nodes_in t by_surface backpointers) surface_nodes.surface.end c.loop-number.ends.items c.push.new.self.items i n c.node_end_node.result here there (c.node_end_node.ensures ∙ ap (λ (b : ℕ). record { total = (get_or backpointers i no_back).total; before = b; right = (get_or backpointers i no_back).right }) next ∙ ap (λ (r : ℕ). record { total = (get_or backpointers i no_back).total; before = suc i; right = r }) right) c.in_ok-push.ensures.items
+          (subst (λ (k : ℕ). AreEndNodesOf (nodes_in t by_surface backpointers) surface_nodes.surface.end k c.loop-number.ends.items) same c.loop-number.invariant.appear);
     }
 
 pub returns : goal.returns
@@ -64,4 +64,4 @@ returns g c =
     let next_ones = c.loop-number.invariant.next_ones in
     let all = c.loop-number-test.false in
     let same : c.loop-number.number ≡ c.args.surface_nodes.now.from = omega (arith, next_ones, all) in
-    subst (λ (k : ℕ). AreEndNodesOf (nodes_in t c.args.by_surface.now c.args.backpointers.now) c.args.surface_nodes.now.surface.end k c.loop-number.ends.items) same c.loop-number.invariant.stand
+    subst (λ (k : ℕ). AreEndNodesOf (nodes_in t c.args.by_surface.now c.args.backpointers.now) c.args.surface_nodes.now.surface.end k c.loop-number.ends.items) same c.loop-number.invariant.appear

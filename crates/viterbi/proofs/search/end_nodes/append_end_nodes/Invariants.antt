@@ -9,7 +9,7 @@ invariant-loop-number g l = record {
   next_ones : l.surface_nodes.from ≤ l.number;
   within : l.number ≤ l.surface_nodes.from + l.surface_nodes.surface.count;
   among : l.number ≤ length l.backpointers;
-  stand : AreEndNodesOf (nodes_in (g.S.WordSource.searched_text l.source) l.by_surface l.backpointers) l.surface_nodes.surface.end l.number l.ends.items;
+  appear : AreEndNodesOf (nodes_in (g.S.WordSource.searched_text l.source) l.by_surface l.backpointers) l.surface_nodes.surface.end l.number l.ends.items;
 }
 
 abbrev pub decreases-loop-number : goal.decreases-loop-number

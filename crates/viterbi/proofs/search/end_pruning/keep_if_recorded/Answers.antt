@@ -10,7 +10,7 @@ is_recorded-requires c =
     let x = get_or ends c.args.rank no_end in
     let at = slice_get-get_or ends c.args.rank no_end c.requires.rank in
     let served = c.requires.recorded c.args.rank x c.requires.rank at in
-    slice_get_within c.args.ranks.now x.right served.rank served.noted
+    slice_get_within c.args.ranks.now x.right served.rank served.recorded
 
 pub returns-in_ok-push : goal.returns-in_ok-push
 returns-in_ok-push c =

@@ -1,7 +1,7 @@
 use Rattle.std.proofs.Common.{arith, ◌+◌, List, Some, length, subst, sym, ap, ◌≡◌, ℕ, slice_get}
 use Rattle.mj_model.specs.declared.word.Word.{Word}
 use Rattle.viterbi.specs.Search.Pruning.{AreForwardCosts}
-use Rattle.viterbi.proofs.PrunedWords.{costs_more, join_is_small, no_costs}
+use Rattle.viterbi.proofs.PrunedWords.{costs_more, predecessor_is_small, no_costs}
 use Rattle.viterbi.proofs.Pushed.{Contains_from_get}
 use Rattle.viterbi.proofs.search.pruning.list_words.Goals as goal
 
@@ -27,13 +27,13 @@ predecessor-requires-clause-pairs g c =
     let at = subst (λ (xs : List Word). slice_get xs c.loop-i.i ≡ Some c.word-word.result) c.words_of-its_words.ensures c.word-word.ensures in
     c.requires.words.pairs c.word-word.result (Contains_from_get ws c.loop-i.i c.word-word.result at)
 
-pub predecessor-requires-clause-stored : goal.predecessor-requires-clause-stored
-predecessor-requires-clause-stored g c = c.loop-i.invariant.predecessors
+pub predecessor-requires-clause-cached : goal.predecessor-requires-clause-cached
+predecessor-requires-clause-cached g c = c.loop-i.invariant.predecessors
 
 pub word_end-requires : goal.word_end-requires
 word_end-requires g c =
     let t = g.S.WordSource.searched_text c.args.source.now in
-    join_is_small t.connection c.args.ends.now c.word-word.result.left c.in_ok-found.found c.requires.words.totals c.requires.words.connections c.in_ok-found.ensures.predecessor
+    predecessor_is_small t.connection c.args.ends.now c.word-word.result.left c.in_ok-found.found c.requires.words.forward_costs c.requires.words.connections c.in_ok-found.ensures.predecessor
 
 pub loop-i-preserved : goal.loop-i-preserved
 loop-i-preserved g c =
@@ -41,7 +41,7 @@ loop-i-preserved g c =
     let ws = t.surface_words c.args.surface.now in
     let at = subst (λ (xs : List Word). slice_get xs c.loop-i.i ≡ Some c.word-word.result) c.words_of-its_words.ensures c.word-word.ensures in
     record {
-      predecessors = c.in_ok-found.ensures.stored;
+      predecessors = c.in_ok-found.ensures.cached;
       words = subst (AreForwardCosts t.connection c.args.ends.now ws (c.loop-i.i + 1)) (sym c.in_ok-push.ensures.items)
           (costs_more t.connection c.args.ends.now ws c.loop-i.i c.loop-i.words.items c.word-word.result c.in_ok-found.found c.word_end.result c.loop-i.invariant.words at c.in_ok-found.ensures.predecessor c.word_end.ensures);
     }

@@ -3,12 +3,12 @@ use Rattle.std.proofs.lemmas.List.{drop_all}
 use Rattle.mj_model.specs.KnownWords.{known_from}
 use Rattle.mj_model.specs.Tables.{lexicons}
 use Rattle.word_lookup.specs.Overlays.{overlay_of}
-use Rattle.word_lookup.proofs.SurfaceLemmas.{all_grown, begun, have_front, have_kept, more_grown}
+use Rattle.word_lookup.proofs.SurfaceLemmas.{all_grown, growth_started, have_prefix, have_kept, more_grown}
 use Rattle.word_lookup.proofs.TableLemmas.{lexicon_count, lexicons_left}
 use Rattle.word_lookup.proofs.dictionaries.Dictionaries.append_known.Goals as goal
 
 pub loop-number-init : goal.loop-number-init
-loop-number-init c = begun _ _ _ _ refl
+loop-number-init c = growth_started _ _ _ _ refl
 
 pub loop-number-preserved : goal.loop-number-preserved
 loop-number-preserved c =
@@ -23,7 +23,7 @@ pub returns-in_err-append_known_of-clause-unchanged : goal.returns-in_err-append
 returns-in_err-append_known_of-clause-unchanged c = have_kept _ _ _ _ _ _ _ _ c.loop-number.invariant (search rules) c.append_known_of.ensures.unchanged
 
 pub returns-clause-unchanged : goal.returns-clause-unchanged
-returns-clause-unchanged c = have_front _ _ _ _ _ _ _ c.loop-number.invariant (search rules) refl
+returns-clause-unchanged c = have_prefix _ _ _ _ _ _ _ c.loop-number.invariant (search rules) refl
 
 pub returns-clause-appended : goal.returns-clause-appended
 returns-clause-appended c =

@@ -9,7 +9,7 @@ use Rattle.word_lookup.specs.Overlays.{overlay_of}
 use Rattle.word_lookup.specs.Surfaces.{all_tables, tokens_of}
 use Rattle.word_lookup.proofs.KnownFound.{prefix_words, known_by_prefixes}
 use Rattle.word_lookup.proofs.RowLemmas.{IsPrefix, prefixes_are}
-use Rattle.word_lookup.proofs.SurfaceLemmas.{all_grown, begun, have_front, more_grown, surface_appended}
+use Rattle.word_lookup.proofs.SurfaceLemmas.{all_grown, growth_started, have_prefix, more_grown, surface_appended}
 use Rattle.word_lookup.proofs.TableLemmas.{lexicon_at, tokens_at}
 use Rattle.word_lookup.proofs.dictionaries.Dictionaries.append_known_of.Goals as goal
 
@@ -27,7 +27,7 @@ loop-length-init c =
     record {
       can = tt;
       finite = tt;
-      grown = begun o c.args.out.now.items _ _ whole;
+      grown = growth_started o c.args.out.now.items _ _ whole;
       are = subst (λ (ts : List Token). AllByRecursion (IsPrefix (length at.rest.now) ts) c.into_iter-length-iterator.result.prefixes) (sym (tokens_at o n t c.numbered-dict.ensures.tables))
           (subst (AllByRecursion (IsPrefix (length at.rest.now) _)) (sym e) are);
     }
@@ -48,15 +48,15 @@ loop-length-preserved c =
       can = tt;
       finite = tt;
       grown = more_grown o _ _ _ _ _ (prefix_words n at.place at.start (c.in-Some.length, c.in-Some.entries)) _ c.loop-length.invariant.grown (ap (flat_map (prefix_words n at.place at.start)) c.in-Some.ensures.steps.0)
-          (surface_appended o at (Lexicon n) c.row.result _ c.surface.result c.in-Some.entries _ _ _ c.surface.ensures c.in_ok-push.ensures.items c.row.ensures all.0.stand all.0.some refl);
+          (surface_appended o at (Lexicon n) c.row.result _ c.surface.result c.in-Some.entries _ _ _ c.surface.ensures c.in_ok-push.ensures.items c.row.ensures all.0.appear all.0.some refl);
       are = all.1;
     }
 
 pub returns-in_err-push-clause-unchanged : goal.returns-in_err-push-clause-unchanged
-returns-in_err-push-clause-unchanged c = have_front _ _ _ _ _ _ _ c.loop-length.invariant.grown (search rules) c.in_err-push.ensures.items
+returns-in_err-push-clause-unchanged c = have_prefix _ _ _ _ _ _ _ c.loop-length.invariant.grown (search rules) c.in_err-push.ensures.items
 
 pub returns-clause-unchanged : goal.returns-clause-unchanged
-returns-clause-unchanged c = have_front _ _ _ _ _ _ _ c.loop-length.invariant.grown (search rules) refl
+returns-clause-unchanged c = have_prefix _ _ _ _ _ _ _ c.loop-length.invariant.grown (search rules) refl
 
 pub returns-clause-appended : goal.returns-clause-appended
 returns-clause-appended c =

@@ -5,7 +5,7 @@ use Rattle.mj_model.specs.KnownWords.{known_words, known_from}
 use Rattle.mj_model.specs.Tables.{lexicons}
 use Rattle.word_lookup.specs.Overlays.{overlay_of}
 use Rattle.word_lookup.proofs.AppendLemmas.{on_ok_map}
-use Rattle.word_lookup.proofs.PlaceLemmas.{skip_within, place_behind_blanks}
+use Rattle.word_lookup.proofs.PlaceLemmas.{skip_within, place_after_blanks}
 use Rattle.word_lookup.proofs.SurfaceLemmas.{grown_kept, known_then_unknown}
 use Rattle.word_lookup.proofs.dictionaries.Dictionaries.append_surfaces.Goals as goal
 
@@ -14,7 +14,7 @@ unfolding overlay_of
 suffix-requires c =
     let o = overlay_of c.args.self.now in
     let w = skip_within o c.args.text.now c.args.place c.requires.there in
-    place_behind_blanks o c.args.text.now c.args.place c.args.start c.requires.there c.requires.after_blanks (omega (arith, w, c.requires.after_blanks))
+    place_after_blanks o c.args.text.now c.args.place c.args.start c.requires.there c.requires.after_blanks (omega (arith, w, c.requires.after_blanks))
 
 pub returns-clause-appended : goal.returns-clause-appended
 unfolding overlay_of
@@ -38,4 +38,4 @@ unfolding overlay_of
 invariant_of-at-clause-there c =
     let o = overlay_of c.args.self.now in
     let w = skip_within o c.args.text.now c.args.place c.requires.there in
-    place_behind_blanks o c.args.text.now c.args.place c.args.start c.requires.there c.requires.after_blanks (omega (arith, w, c.requires.after_blanks))
+    place_after_blanks o c.args.text.now c.args.place c.args.start c.requires.there c.requires.after_blanks (omega (arith, w, c.requires.after_blanks))

@@ -9,5 +9,5 @@ abbrev pub invariant-loop-place : goal.invariant-loop-place
 invariant-loop-place l = record {
   sizes : HaveSameSizes l.fn.ids l.ids;
   last : AreScansOver (overlay_of l.self) l.text l.last;
-  bounded : l.noted ≤ COLLECTED_MAX * l.place;
+  bounded : l.collected ≤ COLLECTED_MAX * l.place;
 }

@@ -10,7 +10,7 @@ use Rattle.mj_model.proofs.CharBytes.{chars_within}
 use Rattle.word_lookup.specs.Overlays.{overlay_of}
 use Rattle.word_lookup.specs.Surfaces.{GrowsByWords}
 use Rattle.word_lookup.specs.UnknownEntries.{entries_of, words_of_spans}
-use Rattle.word_lookup.proofs.SurfaceLemmas.{both_grown, grown_front, grown_kept, none_grown}
+use Rattle.word_lookup.proofs.SurfaceLemmas.{both_grown, grown_prefix, grown_kept, none_grown}
 use Rattle.word_lookup.proofs.UnknownWords.{one_span_more, one_character_more}
 use Rattle.word_lookup.proofs.unknown_entries.UnknownEntries.append_lengths.Goals as goal
 
@@ -50,7 +50,7 @@ pub returns-in_err-append_surface-clause-unchanged : goal.returns-in_err-append_
 returns-in_err-append_surface-clause-unchanged c = grown_kept (overlay_of c.args.self.dictionaries) _ _ _ _ _ _ c.loop-c.invariant.grown (search rules) c.append_surface.ensures.unchanged
 
 pub returns-clause-unchanged : goal.returns-clause-unchanged
-returns-clause-unchanged c = grown_front (overlay_of c.args.self.dictionaries) _ _ _ _ _ c.loop-c.invariant.grown (search rules) refl
+returns-clause-unchanged c = grown_prefix (overlay_of c.args.self.dictionaries) _ _ _ _ _ c.loop-c.invariant.grown (search rules) refl
 
 pub returns-clause-appended : goal.returns-clause-appended
 returns-clause-appended c =

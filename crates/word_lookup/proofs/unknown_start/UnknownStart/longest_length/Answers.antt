@@ -19,7 +19,7 @@ returns c =
     let t = image_tables self.system.now in
     let rest = self.at.rest.now in
     let most = c.longest_in_run-most.result in
-    let suffix = c.suffix-behind_first.ensures ∙ ap (λ (n : ℕ). drop n rest) self.bytes_are in
+    let suffix = c.suffix-after_first.ensures ∙ ap (λ (n : ℕ). drop n rest) self.bytes_are in
     let seen = c.sharing_up_to.ensures ∙ ap (λ (bytes : List ℕ). sharing_with self.info t.info (take (most - 1) (chars bytes))) suffix in
     c.min.ensures
     ∙ alike_up_to_longest (λ d. shares self.info (t.info d)) (chars (drop (len_utf8 self.first) rest)) c.args.category.group c.args.category.length c.args.following most _ c.longest_in_run-most.ensures seen

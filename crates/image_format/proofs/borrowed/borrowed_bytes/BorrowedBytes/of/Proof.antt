@@ -5,7 +5,7 @@ use Rattle.image_format.specs.BytesInMemory.{shared_bytes}
 use Rattle.image_format.specs.contracts.borrowed.borrowed_bytes.BorrowedBytes as borrowed
 use Rattle.image_format.specs.contracts.borrowed.borrowed_bytes.BorrowedBytes.of as this
 use Rattle.image_format.specs.contracts.borrowed.loan.BorrowedParts as loan
-use Rattle.image_format.proofs.BorrowedValues.{lent_made, loan_typed, lying, pointer_typed, words, words_typed}
+use Rattle.image_format.proofs.BorrowedValues.{borrowed_made, loan_typed, lying, pointer_typed, words, words_typed}
 use Rattle.image_format.proofs.borrowed.borrowed_bytes.BorrowedBytes.of.Statement.{statement}
 use Rattle.image_format.proofs.borrowed.borrowed_bytes.BorrowedBytes.of.Code as code
 use Rattle.image_format.proofs.borrowed.loan.BorrowedParts.TheLaws.{lowers}
@@ -37,6 +37,6 @@ of_spec 𝓤 𝓛 𝓜 𝓡 wired =
     sets ! (of_opd ! (get_in ! (fld ! refl (stop !)) (sub ! 1 refl (whole !)))) refl (tt, record { fits = fits }) $
     sets ! (agg ! (and_then ! (get ! refl) (and_then ! (get ! refl) (no_more !)))) refl (words_typed 𝓛 l.at l.len fits) $ returns ! (look_at ! 0 refl) $ free_all ! refl $
     let new : borrowed.the_row.Denot = record { at = l.at; len = l.len; bytes = l.bytes; share = l.share; counted = reported.0 } in
-    use1 𝓛 (‵ (borrowed.the_row.own_val new (w ∷ []))) (lent_made 𝓛 l.share l.at l.len l.bytes reported.0 fits) $
+    use1 𝓛 (‵ (borrowed.the_row.own_val new (w ∷ []))) (borrowed_made 𝓛 l.share l.at l.len l.bytes reported.0 fits) $
     suffices ! _ (ends_at 𝓛 this.ended spent c y w new (tt, tt) (tt, tt)) $ says ! refl $
     nothing ! $ nothing ! $ join ! $ nothing ! $ done !)))

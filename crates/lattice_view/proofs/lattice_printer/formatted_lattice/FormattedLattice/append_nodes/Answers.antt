@@ -1,5 +1,5 @@
 use Rattle.std.proofs.Common.{rules, arith, ◌∙◌}
-use Rattle.word_lookup.proofs.AppendLemmas.{front_kept}
+use Rattle.word_lookup.proofs.AppendLemmas.{prefix_kept}
 use Rattle.lattice_view.specs.LatticePrinter.LatticesOfLines.{overlay_of_lattice}
 use Rattle.lattice_view.specs.LatticePrinter.FormattedLattices.{PrintsWithin}
 use Rattle.lattice_view.proofs.PrintedNodes.{all_nodes, node_more}
@@ -7,7 +7,7 @@ use Rattle.lattice_view.proofs.PrintedWords.{shown_there}
 use Rattle.lattice_view.proofs.lattice_printer.formatted_lattice.FormattedLattice.append_nodes.Goals as goal
 
 pub returns-in_err-append_within-clause-unchanged : goal.returns-in_err-append_within-clause-unchanged
-returns-in_err-append_within-clause-unchanged c = front_kept _ _ _ _ _ (search rules) (c.append_within.ensures.unchanged ∙ c.loop-number.invariant.appended)
+returns-in_err-append_within-clause-unchanged c = prefix_kept _ _ _ _ _ (search rules) (c.append_within.ensures.unchanged ∙ c.loop-number.invariant.appended)
 
 pub loop-number-preserved : goal.loop-number-preserved
 loop-number-preserved c =

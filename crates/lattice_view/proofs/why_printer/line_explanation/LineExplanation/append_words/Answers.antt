@@ -1,6 +1,6 @@
 use Rattle.std.proofs.Common.{◌≡◌, length, rules, arith, ap, ◌∙◌}
 use Rattle.mj_model.specs.Words.{words}
-use Rattle.word_lookup.proofs.AppendLemmas.{front_kept}
+use Rattle.word_lookup.proofs.AppendLemmas.{prefix_kept}
 use Rattle.lattice_view.specs.WhyPrinter.ExplainedLines.{best_of_line, overlay_of_line, steps_of_line}
 use Rattle.lattice_view.specs.WhyPrinter.LineExplanations.{PrintsStep}
 use Rattle.lattice_view.proofs.LineWords.{step_there}
@@ -19,7 +19,7 @@ append_word-requires-clause-step c =
     step_there l c.steps-steps.result.now c.loop-number.number _ (c.steps-steps.ensures (words o l.text.now) o.system.connection (length l.text.now) (best_of_line l) c.requires.rivals) c.loop-number-test.true
 
 pub returns-in_err-append_word-clause-unchanged : goal.returns-in_err-append_word-clause-unchanged
-returns-in_err-append_word-clause-unchanged c = front_kept _ _ _ _ _ (search rules) (c.append_word.ensures.unchanged ∙ c.loop-number.invariant.appended)
+returns-in_err-append_word-clause-unchanged c = prefix_kept _ _ _ _ _ (search rules) (c.append_word.ensures.unchanged ∙ c.loop-number.invariant.appended)
 
 pub loop-number-preserved : goal.loop-number-preserved
 loop-number-preserved c =

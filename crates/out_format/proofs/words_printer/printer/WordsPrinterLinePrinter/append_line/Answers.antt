@@ -3,7 +3,7 @@ use Rattle.std.proofs.lemmas.Int.{to_z-of_z}
 use mir.Val.{SFits}
 use Rattle.std.specs.Prelude.{ℕ}
 use Rattle.line_stream.specs.StreamState.{IsPrinted}
-use Rattle.line_stream.proofs.ResultLemmas.{front_kept, on_ok_by}
+use Rattle.line_stream.proofs.ResultLemmas.{prefix_kept, on_ok_by}
 use Rattle.out_format.specs.PrintedPaths.{PrintsPath}
 use Rattle.word_lookup.specs.Overlays.{overlay_of}
 use Rattle.out_format.specs.PrintedLines.{LineResult}
@@ -24,7 +24,7 @@ pub returns-clause-unchanged : goal.returns-clause-unchanged
 returns-clause-unchanged c =
     let o = overlay_of c.args.self.now.dictionaries in
     let f = c.args.self.now.format.now in
-    front_kept c.print_words.result (PrintsPath o f c.args.text.now c.in_ok-found.found.words) _ c.args.out.now.items c.print_words.new.out.items (search rules) c.print_words.ensures.appended c.print_words.ensures.unchanged
+    prefix_kept c.print_words.result (PrintsPath o f c.args.text.now c.in_ok-found.found.words) _ c.args.out.now.items c.print_words.new.out.items (search rules) c.print_words.ensures.appended c.print_words.ensures.unchanged
 
 pub print_words-requires-clause-total : goal.print_words-requires-clause-total
 print_words-requires-clause-total c =

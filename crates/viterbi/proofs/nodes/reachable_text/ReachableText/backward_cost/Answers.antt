@@ -4,7 +4,7 @@ use Rattle.viterbi.specs.Nodes.Least.{IsLeastOf, number_of}
 use Rattle.viterbi.specs.Nodes.BackwardCosts.{CostsToEosBelow}
 use Rattle.viterbi.proofs.ReachableLemmas.{firsts_rise}
 use Rattle.viterbi.proofs.SourceLemmas.{ends_low, follows_word}
-use Rattle.viterbi.proofs.StepLemmas.{next_small, rest_first, rest_last, rest_next}
+use Rattle.viterbi.proofs.StepLemmas.{next_small, backward_first, backward_last, backward_next}
 use Rattle.viterbi.proofs.nodes.reachable_text.ReachableText.backward_cost.Goals as goal
 
 pub overflow_add-before : goal.overflow_add-before
@@ -24,7 +24,7 @@ loop-next-init g c =
     let i = c.args.i in
     let w = c.index-before.result.now in
     let at = slice_get_read r.words.items (length r.words.items) i w refl c.requires.word c.index-before.ensures in
-    rest_first t r c.requires.text.source c.requires.text.reached i w at c.args.backward_costs.now c.first-from.result c.requires.later c.first-from.ensures
+    backward_first t r c.requires.text.source c.requires.text.reached i w at c.args.backward_costs.now c.first-from.result c.requires.later c.first-from.ensures
 
 pub least_with-least-requires-clause-small : goal.least_with-least-requires-clause-small
 least_with-least-requires-clause-small g c =
@@ -67,7 +67,7 @@ loop-next-preserved g c =
     let at = slice_get_read r.words.items (length r.words.items) i w refl c.requires.word c.index-before.ensures in
     let v = c.index.result.now in
     let at_k = slice_get_read r.words.items (length r.words.items) k v refl (omega (arith, high, within)) c.index.ensures in
-    rest_next t r c.requires.text.source c.requires.text.reached i w at c.first-from.result c.first-to.result k v at_k c.first-from.ensures c.first-to.ensures c.loop-next.auto.next high
+    backward_next t r c.requires.text.source c.requires.text.reached i w at c.first-from.result c.first-to.result k v at_k c.first-from.ensures c.first-to.ensures c.loop-next.auto.next high
     c.args.backward_costs.now c.requires.later c.loop-next.least c.least_with-least.result c.least_with-least.ensures c.loop-next.invariant
 
 pub returns : goal.returns
@@ -79,5 +79,5 @@ returns g c =
     let at = slice_get_read r.words.items (length r.words.items) i w refl c.requires.word c.index-before.ensures in
     let rise = firsts_rise r.words.items w.end (w.end + 1) c.first-from.result c.first-to.result (omega arith) c.first-from.ensures c.first-to.ensures in
     let last : c.loop-next.next ≡ c.first-to.result = omega (arith, c.loop-next.auto.next-end rise, c.loop-next-test.false) in
-    rest_last t r c.requires.text.source c.requires.text.reached i w at c.first-to.result c.loop-next.least c.first-to.ensures
+    backward_last t r c.requires.text.source c.requires.text.reached i w at c.first-to.result c.loop-next.least c.first-to.ensures
     (subst (λ (n : ℕ). IsLeastOf (CostsToEosBelow t.words t.connection r.words.items n w) (number_of c.loop-next.least)) last c.loop-next.invariant)

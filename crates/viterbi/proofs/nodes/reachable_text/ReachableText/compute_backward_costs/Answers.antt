@@ -1,6 +1,6 @@
 use Rattle.std.proofs.Common.{◌≡◌, ◌+◌, ◌-◌, ℕ, length, sym, subst, arith}
 use Rattle.viterbi.specs.Nodes.BackwardCosts.{AreBackwardCostsFrom}
-use Rattle.viterbi.proofs.BackwardCostLemmas.{rest_written}
+use Rattle.viterbi.proofs.BackwardCostLemmas.{backward_written}
 use Rattle.viterbi.proofs.nodes.reachable_text.ReachableText.compute_backward_costs.Goals as goal
 
 pub loop-i-init : goal.loop-i-init
@@ -31,7 +31,7 @@ loop-i-preserved g c =
     let same : c.loop-i.i ≡ (c.loop-i.i - 1) + 1 = omega (arith, some) in
     record {
       within = omega (arith, low);
-      known = rest_written t.words t.connection r.words.items c.loop-i.backward_costs.items (c.loop-i.i - 1) c.backward_cost.result c.backward_cost.ensures (subst (λ (n : ℕ). AreBackwardCostsFrom t r n c.loop-i.backward_costs.items) same c.loop-i.invariant.known);
+      known = backward_written t.words t.connection r.words.items c.loop-i.backward_costs.items (c.loop-i.i - 1) c.backward_cost.result c.backward_cost.ensures (subst (λ (n : ℕ). AreBackwardCostsFrom t r n c.loop-i.backward_costs.items) same c.loop-i.invariant.known);
     }
 
 pub returns : goal.returns

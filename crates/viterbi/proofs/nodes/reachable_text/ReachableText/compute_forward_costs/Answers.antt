@@ -1,7 +1,7 @@
 use Rattle.std.proofs.Common.{◌≡◌, ◌+◌, ℕ, length, drop, sym, subst, ◌∙◌, arith}
 use Rattle.std.proofs.lemmas.List.{take_at}
 use Rattle.viterbi.specs.Nodes.ForwardCosts.{ArePropagatedIn}
-use Rattle.viterbi.proofs.StepLemmas.{totals_all}
+use Rattle.viterbi.proofs.StepLemmas.{forward_costs_all}
 use Rattle.viterbi.proofs.nodes.reachable_text.ReachableText.compute_forward_costs.Goals as goal
 
 pub propagate-requires-clause-before : goal.propagate-requires-clause-before
@@ -24,4 +24,4 @@ returns g c =
     let r = c.args.self.now.reached.now in
     let ok = r.words.ok in
     let all : c.loop-i.i ≡ length r.words.items = omega (arith, c.loop-i.auto.i-end, c.loop-i-test.false, c.len-i-end.ensures, ok.0) in
-    totals_all t r c.requires.source c.requires.reached c.loop-i.forward_costs.items (subst (λ (n : ℕ). ArePropagatedIn t r n 0 c.loop-i.forward_costs.items) all c.loop-i.invariant)
+    forward_costs_all t r c.requires.source c.requires.reached c.loop-i.forward_costs.items (subst (λ (n : ℕ). ArePropagatedIn t r n 0 c.loop-i.forward_costs.items) all c.loop-i.invariant)

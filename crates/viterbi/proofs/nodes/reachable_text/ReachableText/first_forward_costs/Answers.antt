@@ -6,7 +6,7 @@ use Rattle.viterbi.specs.declared.nodes.cost.ChainCost.{ChainCost}
 use Rattle.viterbi.specs.Nodes.Least.{IsLeastOf, number_of}
 use Rattle.viterbi.specs.Nodes.ForwardCosts.{CostsUpToBelow}
 use Rattle.viterbi.proofs.SourceLemmas.{follows_bos}
-use Rattle.viterbi.proofs.StepLemmas.{started, begun_all, holds_pushed}
+use Rattle.viterbi.proofs.StepLemmas.{started, started_all, holds_pushed}
 use Rattle.viterbi.proofs.nodes.reachable_text.ReachableText.first_forward_costs.Goals as goal
 
 pub first_forward_cost-requires : goal.first_forward_cost-requires
@@ -41,4 +41,4 @@ returns g c =
     let ok = r.words.ok in
     let long = c.loop-i.invariant.long in
     let all : length c.loop-i.forward_costs.items ≡ length r.words.items = omega (arith, long, c.loop-i.auto.i-end, c.loop-i-test.false, c.len-i-end.ensures, ok.0) in
-    begun_all t r c.requires.source c.requires.reached c.loop-i.forward_costs.items all c.loop-i.invariant.each
+    started_all t r c.requires.source c.requires.reached c.loop-i.forward_costs.items all c.loop-i.invariant.each

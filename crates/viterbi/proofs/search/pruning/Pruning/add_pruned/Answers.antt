@@ -5,16 +5,16 @@ use Rattle.mj_model.specs.Lists.{GrowsBy}
 use Rattle.viterbi.proofs.PrunedWords.{kept_alone, kept_mostly, kept_whole, numbers_below}
 use Rattle.viterbi.proofs.search.pruning.Pruning.add_pruned.Goals as goal
 
-pub returns-then-surface-le-MANY_WORDS-clause-stored : goal.returns-then-surface-le-MANY_WORDS-clause-stored
-returns-then-surface-le-MANY_WORDS-clause-stored g c =
+pub returns-then-surface-le-MANY_WORDS-clause-appended : goal.returns-then-surface-le-MANY_WORDS-clause-appended
+returns-then-surface-le-MANY_WORDS-clause-appended g c =
     let t = g.S.WordSource.searched_text c.args.source.now in
     let s = c.args.surface.now in
     let count = c.requires.surface.count_is in
     let few : length (t.surface_words s) ≤ few_words = omega (arith, count, c.if-surface-le-MANY_WORDS.true) in
     (s ∷ [], kept_whole t c.args.ends.now s c.requires.surface (inl few), c.in_ok-push.ensures.items)
 
-pub returns-then-surface-len-clause-stored : goal.returns-then-surface-len-clause-stored
-returns-then-surface-len-clause-stored g c =
+pub returns-then-surface-len-clause-appended : goal.returns-then-surface-len-clause-appended
+returns-then-surface-len-clause-appended g c =
     let t = g.S.WordSource.searched_text c.args.source.now in
     let s = c.args.surface.now in
     let words = c.list_words.new.words.items in
@@ -33,8 +33,8 @@ add_single_word_surfaces-requires-clause-numbers g c =
     subst (HaveNumbersBelow s.count) (sym c.deref.ensures.value)
     (numbers_below t.connection c.args.ends.now (t.surface_words s) s.count c.list_words.new.words.items c.prune_ends.new.ends.items c.in_ok-list_words.ensures.words c.in_ok-prune_ends.ensures.left)
 
-pub returns-clause-stored : goal.returns-clause-stored
-returns-clause-stored g c =
+pub returns-clause-appended : goal.returns-clause-appended
+returns-clause-appended g c =
     let t = g.S.WordSource.searched_text c.args.source.now in
     let s = c.args.surface.now in
     let f = t.surface_words in

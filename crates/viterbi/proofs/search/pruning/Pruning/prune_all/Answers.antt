@@ -43,7 +43,7 @@ loop-number-preserved g c =
     let ss = c.args.surfaces.now in
     let number = c.loop-number.number in
     let within : number < length ss = omega (arith, c.loop-number.auto.number-end, c.loop-number-test.true) in
-    let grown = c.in_ok-add_pruned.ensures.stored in
+    let grown = c.in_ok-add_pruned.ensures.appended in
     let more = surfaces_more t ends (take number ss) c.loop-number.self.kept.items grown.0 (get_or ss number no_surface) c.loop-number.invariant.kept grown.1 in
     record {
       predecessors = c.in_ok-add_pruned.ensures.predecessors;

@@ -9,7 +9,7 @@ use Rattle.viterbi.specs.Search.Nodes.{AreLinked, AreSurfaceNodes, words_of_surf
 use Rattle.viterbi.specs.Search.SearchedText.{with_words, word_count}
 use Rattle.viterbi.proofs.KeptWords.{next_surface_kept}
 use Rattle.viterbi.proofs.Links.{links_on}
-use Rattle.viterbi.proofs.SurfaceNodeLemmas.{bundles_push, words_push}
+use Rattle.viterbi.proofs.SurfaceNodeLemmas.{groups_push, words_push}
 use Rattle.viterbi.proofs.WordNumbers.{no_surface, surface_ends, whole_at}
 use Rattle.viterbi.proofs.search.start_position.StartPosition.add_surface.Goals as goal
 
@@ -59,14 +59,14 @@ add_words-requires-clause-follows g c =
     let surface_nodes : SurfaceNodes = record { surface = s; from = c.len.result; next = c.index.result.now } in
     let bundles_now : c.deref.result.now ≡ nodes.by_surface.items ++ surface_nodes ∷ [] = c.deref.ensures.value ∙ c.in_ok-add_surface_nodes.ensures.by_surface in
     λ next surface at_next at_surface.
-    let next_ones = c.requires.next_ones (slice_get_within surfaces (c.args.number + 1) next at_next) in
-    let its : next_ones.surface ≡ next = same_Some next_ones.surface next (sym next_ones.here ∙ at_next) in
+    let previous = c.requires.previous (slice_get_within surfaces (c.args.number + 1) next at_next) in
+    let its : previous.surface ≡ next = same_Some previous.surface next (sym previous.here ∙ at_next) in
     let mine : s ≡ surface = same_Some s surface (sym (slice_get-get_or surfaces c.args.number no_surface c.requires.number) ∙ at_surface) in (
-      next_ones.before,
+      previous.before,
       ap (node_words t.surface_words) bundles_now ∙ words_push t.surface_words nodes.by_surface.items surface_nodes
-          ∙ ap (λ (ws : List Word). ws ++ words_of_surface_nodes t.surface_words surface_nodes) next_ones.words
-          ∙ ap (λ (x : Surface). (next_ones.before ++ reverse (t.surface_words x)) ++ reverse (t.surface_words s)) its
-          ∙ ap (λ (x : Surface). (next_ones.before ++ reverse (t.surface_words next)) ++ reverse (t.surface_words x)) mine,
+          ∙ ap (λ (ws : List Word). ws ++ words_of_surface_nodes t.surface_words surface_nodes) previous.words
+          ∙ ap (λ (x : Surface). (previous.before ++ reverse (t.surface_words x)) ++ reverse (t.surface_words s)) its
+          ∙ ap (λ (x : Surface). (previous.before ++ reverse (t.surface_words next)) ++ reverse (t.surface_words x)) mine,
     )
 
 pub add_words-requires-clause-added : goal.add_words-requires-clause-added
@@ -100,13 +100,13 @@ returns-clause-stored g c =
     let heads_now = take_at c.add_surface_nodes.new.heads (drop (length c.add_surface_nodes.new.heads) heads) nodes.heads.len (size ∙ sym ok.0) ∙ set_heads in
     let from = c.len.ensures ∙ nodes.backpointers.ok.0 ∙ kept.all in
     let whole = whole_at (with_words t c.requires.added.kept) c.args.self.now.start surfaces c.requires.added.place.surfaces c.args.number no_surface c.requires.number in
-    let bundles_are = subst (AreSurfaceNodes t.surface_words) (sym c.in_ok-add_surface_nodes.ensures.by_surface) (bundles_push t.surface_words nodes.by_surface.items surface_nodes kept.bundles_are whole from) in
+    let groups_are = subst (AreSurfaceNodes t.surface_words) (sym c.in_ok-add_surface_nodes.ensures.by_surface) (groups_push t.surface_words nodes.by_surface.items surface_nodes kept.groups_are whole from) in
     let linked = links_on nodes.by_surface.items heads surface_nodes kept.linked at in
     let added = subst (λ (rs : List SurfaceNodes). AreKeptFrom t c.args.self.now c.args.number 0 rs c.add_words.new.backpointers.items) c.deref.ensures.value c.in_ok-add_words.ensures.added in
     let none_left = added.added.left in
     let places = ap length heads_now ∙ length-set heads s.end (suc (length nodes.by_surface.items)) ∙ kept.places in
     record {
-      bundles_are = bundles_are;
+      groups_are = groups_are;
       all = omega (arith, none_left);
       rights = added.added.rights;
       linked = subst (λ (rs : List SurfaceNodes). AreLinked rs (take nodes.heads.len (c.add_surface_nodes.new.heads ++ drop (length c.add_surface_nodes.new.heads) heads))) (sym c.in_ok-add_surface_nodes.ensures.by_surface) (subst (λ (hs : List ℕ). AreLinked (nodes.by_surface.items ++ surface_nodes ∷ []) hs) (sym heads_now) linked);

@@ -1,7 +1,7 @@
 use Rattle.std.proofs.Common.{arith, ◌≡◌, ℕ, ◌+◌, ◌-◌, ◌++◌, List, get_or, length, take, drop, Some, subst, sym, ap, ◌∙◌, slice_get, vec_len}
 use Rattle.mj_model.specs.declared.word.Word.{Word}
 use Rattle.viterbi.specs.Search.StartPositions.{AreKeptFrom}
-use Rattle.viterbi.proofs.KeptWords.{copied_kept, kept_pairs, kept_small, kept_totals, many_kept, one_more_kept}
+use Rattle.viterbi.proofs.KeptWords.{copied_kept, kept_pairs, kept_small, kept_forward_costs, many_kept, one_more_kept}
 use Rattle.viterbi.specs.Search.SearchedText.{with_words}
 use Rattle.viterbi.proofs.WordNumbers.{count_at, no_surface, whole_at}
 use Rattle.viterbi.proofs.search.start_position.StartPosition.add_words.Goals as goal
@@ -59,8 +59,8 @@ word-word-requires g c =
 pub predecessor-requires-clause-some : goal.predecessor-requires-clause-some
 predecessor-requires-clause-some g c = c.requires.added.place.some
 
-pub predecessor-requires-clause-totals : goal.predecessor-requires-clause-totals
-predecessor-requires-clause-totals g c =
+pub predecessor-requires-clause-forward_costs : goal.predecessor-requires-clause-forward_costs
+predecessor-requires-clause-forward_costs g c =
     let t = g.S.WordSource.searched_text c.args.source.now in
     let i = c.loop-i.i - 1 in
     let backpointers = c.loop-i.backpointers.items in
@@ -68,7 +68,7 @@ predecessor-requires-clause-totals g c =
     let same : c.loop-i.i ≡ i + 1 = omega (arith, some) in
     let its = subst (λ (ws : List Word). slice_get ws i ≡ Some c.word-word.result) c.words_of-words.ensures c.word-word.ensures in
     let added = subst (λ (n : ℕ). AreKeptFrom t c.args.self.now c.args.number n c.args.by_surface.now backpointers) same c.loop-i.invariant.added in
-    kept_totals t c.args.self.now c.args.number c.requires.number c.args.by_surface.now backpointers i c.word-word.result its added
+    kept_forward_costs t c.args.self.now c.args.number c.requires.number c.args.by_surface.now backpointers i c.word-word.result its added
 
 pub predecessor-requires-clause-pairs : goal.predecessor-requires-clause-pairs
 predecessor-requires-clause-pairs g c =
@@ -106,5 +106,5 @@ loop-i-preserved g c =
       within = omega (arith, within);
       added = subst (AreKeptFrom t c.args.self.now c.args.number i c.args.by_surface.now) (sym c.in_ok-push.ensures.items)
           (one_more_kept t c.args.self.now c.args.number c.requires.number c.args.by_surface.now backpointers i c.word-word.result its added c.requires.last c.after.result c.in_ok-found.found c.after.ensures.node c.after.ensures.right c.in_ok-found.ensures.predecessor);
-      predecessors = c.in_ok-found.ensures.stored;
+      predecessors = c.in_ok-found.ensures.cached;
     }

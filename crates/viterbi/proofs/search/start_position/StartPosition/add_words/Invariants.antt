@@ -7,7 +7,7 @@ abbrev pub invariant-loop-i : goal.invariant-loop-i
 invariant-loop-i g l = record {
   within : l.i ≤ word_count l.self.surfaces.now l.number;
   added : AreKeptFrom (g.S.WordSource.searched_text l.source) l.self l.number l.i l.by_surface l.backpointers.items;
-  predecessors : g.J.FindPredecessor.is_of l.predecessors (g.S.WordSource.searched_text l.source).connection l.self.ends.now;
+  predecessors : g.F.FindPredecessor.is_of l.predecessors (g.S.WordSource.searched_text l.source).connection l.self.ends.now;
 }
 
 abbrev pub decreases-loop-i : goal.decreases-loop-i

@@ -1,5 +1,0 @@
-use Rattle.dict_compile.proofs.FirstFaults.{tables_are_one}
-use Rattle.dict_compile.proofs.laws.sources_say_one_thing.Goals as goal
-
-pub returns : goal.returns
-returns c = tables_are_one
