@@ -25,9 +25,9 @@ enum { HEADER = 16 };
    MAPPED is set if the block is mapped separately. */
 enum { FLAGS = 7, MAPPED = 2 };
 
-/* Whether glibc has mapped a block separately. In other memory the request for huge pages would
-   outlive the block. If the block starts HEADER after the start of a page, the word before it is in
-   that page, so it can be read even if malloc is not glibc's. */
+/* Returns whether glibc has mapped a block separately. In other memory the request for huge pages
+   would outlive the block. If the block starts HEADER after the start of a page, the word before it
+   is in that page, so it can be read even if malloc is not glibc's. */
 static bool is_mapped_alone(const void *block) {
     size_t before;
     if ((uintptr_t)block % (size_t)sysconf(_SC_PAGESIZE) != HEADER) return false;

@@ -50,7 +50,7 @@ static bool is_in_folder(const char *folder, const char *name) {
     return is_there;
 }
 
-/* Whether a directory has a dictionary of MeCab, compiled or not. */
+/* Returns whether a directory has a dictionary of MeCab, compiled or not. */
 static bool is_of_mecab(const char *folder) {
     return is_in_folder(folder, "sys.dic") || is_in_folder(folder, "matrix.def");
 }
@@ -69,7 +69,7 @@ static size_t length_of_name(const char *name) {
                : length;
 }
 
-/* Whether kumquatsieve-import knows a dictionary by this name. */
+/* Returns whether kumquatsieve-import knows a dictionary by this name. */
 static bool is_known(const char *name) {
     static const char *const NAMES[] = {"ipadic", "juman", "naist", "unidic"};
     for (size_t i = 0; i < sizeof NAMES / sizeof *NAMES; i++) {
@@ -92,40 +92,35 @@ static bool fail_not_imported(fault *error, const char *folder, const char *name
                 folder, IMAGES, name);
 }
 
-/* Sets *path to the path of the image that a name means, which the caller frees, or to NULL if no
-   image has the name. Returns false if memory runs out. */
-static bool find(const char *name, char **path) {
-    size_t room = 0;
-    *path = NULL;
-    uint32_t code = kumquatsieve_find_image(name, NULL, 0, &room, NULL);
+/* Writes the paths of all installed images, one after another, each with its zero byte, to *paths,
+   which the caller frees, and sets *length. Returns false if memory runs out. */
+static bool list_images(char **paths, size_t *length) {
+    *paths = NULL;
+    uint32_t code = kumquatsieve_list_images(NULL, 0, length, NULL);
     while (code == KUMQUATSIEVE_SHORT_BUFFER) {
-        free(*path);
-        *path = malloc(room);
-        if (!*path) return false;
-        code = kumquatsieve_find_image(name, *path, room, &room, NULL);
+        free(*paths);
+        *paths = malloc(*length);
+        if (!*paths) return false;
+        code = kumquatsieve_list_images(*paths, *length, length, NULL);
     }
-    if (code == KUMQUATSIEVE_OK) return true;
-    free(*path);
-    *path = NULL;
-    return code == KUMQUATSIEVE_FILE;
+    return code == KUMQUATSIEVE_OK;
 }
 
-/* Sets *path to the path of the installed image with a bare name, whether or not the name is also
-   the path of a file. Otherwise as `find`. */
+/* Sets *path to the path of the installed image with a bare name, which the caller frees, whether
+   or not the name is also the path of a file, or to NULL if no image has the name. Returns false if
+   memory runs out. */
 static bool find_installed(const char *name, char **path) {
-    text_list all;
+    char *all = NULL;
+    size_t count = 0, length = strlen(name);
+    bool has_memory = list_images(&all, &count);
     *path = NULL;
-    if (!make_list(kumquatsieve_list_images, &all)) return false;
-    bool has_memory = true;
-    for (size_t at = 0; at < all.length && !*path; at += strlen(all.first + at) + 1) {
-        size_t length = 0;
-        const char *bare = bare_name(all.first + at, &length);
-        if (length != strlen(name) || memcmp(bare, name, length) != 0) continue;
-        *path = strdup(all.first + at);
+    for (size_t at = 0; has_memory && at < count && !*path; at += strlen(all + at) + 1) {
+        const char *file = strrchr(all + at, '/') + 1;
+        if (strncmp(file, name, length) != 0 || strcmp(file + length, ".img") != 0) continue;
+        *path = strdup(all + at);
         has_memory = *path != NULL;
-        if (!has_memory) break;
     }
-    free(all.first);
+    free(all);
     return has_memory;
 }
 
@@ -146,12 +141,19 @@ static char *imported(const char *folder, fault *error) {
 
 /* Returns the path of the image with a name, which the caller frees, or NULL after an error. */
 static char *path_of(const char *name, fault *error) {
+    kumquatsieve_error why;
     char *path = NULL;
-    if (!find(name, &path))
-        fail_memory(error);
-    else if (!path)
-        fail_missing(error, name);
-    return path;
+    size_t room = 0;
+    uint32_t code = kumquatsieve_find_image(name, NULL, 0, &room, &why);
+    while (code == KUMQUATSIEVE_SHORT_BUFFER) {
+        free(path);
+        path = malloc(room);
+        if (!path) return fail_memory(error), NULL;
+        code = kumquatsieve_find_image(name, path, room, &room, &why);
+    }
+    if (code == KUMQUATSIEVE_OK) return path;
+    free(path);
+    return fail(error, "%s", why.message), NULL;
 }
 
 /* Returns the path of the image that `name` means, which the caller frees, or NULL after an error:
@@ -232,8 +234,8 @@ char *beside(const char *image, const char *ending) {
     return made;
 }
 
-/* Whether there is no file of this name, or can be none. A file that can't be read, such as a
-   broken link, is not missing, so its reader reports it. */
+/* Returns whether there is no file of this name, or can be none. A file that can't be read, such as
+   a broken link, is not missing, so its reader reports it. */
 static bool is_missing(const char *path) {
     struct stat of;
     return lstat(path, &of) != 0 && (errno == ENOENT || errno == ENOTDIR || errno == ENAMETOOLONG);

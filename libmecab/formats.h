@@ -60,7 +60,7 @@ const char *setting_of(const settings *of, const char *name);
 /* Returns the value of a setting as a number, or `otherwise` if it is not set. */
 long number_of(const settings *of, const char *name, long otherwise);
 
-/* Whether the value of a setting is 1. */
+/* Returns whether the value of a setting is 1. */
 bool is_set(const settings *of, const char *name);
 bool is_only_blanks(const char *text);
 bool set(settings *to, const char *name, const char *value, fault *error);
@@ -82,13 +82,13 @@ stamp stamp_in(const char *line, const unsigned char *checksum);
 bool read_settings(settings *to, const char *path, const unsigned char *checksum, bool *is_other,
                    fault *error);
 
-/* The state of reading lines: `held` are bytes of the file, of which the first `told` were returned
-   as lines, and the first `seen` have no line end after those. `number` is the number of the line
-   that was returned last, from 1. */
+/* The state of reading lines: `held` are bytes of the file, of which the first `returned` were
+   returned as lines, and the first `seen` have no line end after those. `number` is the number of
+   the line that was returned last, from 1. */
 typedef struct lines {
     int from;
     bytes held;
-    size_t told;
+    size_t returned;
     size_t seen;
     size_t number;
     bool is_over;

@@ -112,7 +112,7 @@ static bool has_changed(const char *path, const heading *before) {
     return !are_same(&before->which, &now);
 }
 
-/* Whether a file was replaced or changed since its header was read. */
+/* Returns whether a file was replaced or changed since its header was read. */
 static bool is_any_changed(const images *of, char *const *paths) {
     bool is_changed = false;
     for (size_t i = 0; !is_changed && i < of->count; i++)

@@ -96,7 +96,7 @@ struct mecab_t {
    - `has_long_word`: a word is too long for a node
    - `is_placed`: `begins` and `ends` list the nodes of the whole lattice
    - `is_chained`: all nodes are linked, instead of those of the path
-   - `is_told`: the best path was returned as the first of N */
+   - `is_best_returned`: the best path was returned as the first of N */
 struct mecab_lattice_t {
     mecab_model_t *model;
     tables *tables;
@@ -131,7 +131,7 @@ struct mecab_lattice_t {
     bool is_printed;
     bool is_placed;
     bool is_chained;
-    bool is_told;
+    bool is_best_returned;
     bool is_constrained;
     int request;
     double theta;
@@ -156,22 +156,6 @@ bool read_beside(settings *to, const char *image, const unsigned char *checksum,
 /* Returns the path of the image of a user dictionary, which the caller frees. */
 char *find_user_image(const char *name, fault *error);
 char *beside(const char *image, const char *ending);
-
-/* missing.c. Texts one after another, each with its zero byte, and a call of the library that lists
-   them. */
-typedef struct text_list {
-    char *first;
-    size_t length;
-} text_list;
-
-typedef uint32_t list_call(char *texts, size_t room, size_t *needed, kumquatsieve_error *error);
-
-/* Makes the list of a call, whose `first` the caller frees. Returns false if memory runs out. */
-bool make_list(list_call *list_texts, text_list *list);
-/* Returns the bare name in the path of an image, and sets its length. */
-const char *bare_name(const char *path, size_t *length);
-/* Reports that no image has a bare name. Returns false. */
-bool fail_missing(fault *error, const char *name);
 
 /* lock.c. The lock that is held while images are opened. Like the next one, it is free in a child
    that was forked while another thread held it. */
@@ -267,7 +251,7 @@ bool make_other(mecab_lattice_t *lattice, mecab_node_t *node, const kumquatsieve
 /* Replaces the features of unknown words by the setting `unk-feature`. */
 void exchange_features(const char *feature, mecab_node_t *nodes, size_t count);
 
-/* Moves behind the part. */
+/* Moves to the end of the part. */
 void end_part(part *of);
 bool fit_in_node(kumquatsieve_word *word);
 bool add_nodes(mecab_lattice_t *lattice, part *of, fault *error);
@@ -287,7 +271,7 @@ bool find_nodes(mecab_lattice_t *lattice, fault *error);
 /* places.c. Links all nodes of the lattice, instead of those of the path. */
 bool chain_all(mecab_lattice_t *lattice, fault *error);
 
-/* odd.c. Whether a code means that the library rejects a sentence that MeCab accepts. */
+/* odd.c. Returns whether a code means that the library rejects a sentence that MeCab accepts. */
 bool is_odd(uint32_t code);
 
 /* Adds the nodes of the path of such a sentence, and sets *cost to the cost of the path. */

@@ -12,8 +12,8 @@ int mecab_lattice_next(mecab_lattice_t *lattice) {
     if (!(lattice->request & MECAB_NBEST))
         return fail(&lattice->error, "MECAB_NBEST request type is not set");
     if (!lattice->is_segmented) return fail(&lattice->error, "no sentence was parsed");
-    if (lattice->is_told) return fail_left_out(&lattice->error, "N-best");
-    lattice->is_told = true;
+    if (lattice->is_best_returned) return fail_left_out(&lattice->error, "N-best");
+    lattice->is_best_returned = true;
     return true;
 }
 

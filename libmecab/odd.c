@@ -11,8 +11,8 @@ enum { CHARACTER_MOST = 6 };
 
 static const char FULL_STOP[] = "\xe3\x80\x82";
 
-/* Whether a byte is the second one or a later one of a character, or the first one of the second of
-   two surrogates. */
+/* Returns whether a byte is the second one or a later one of a character, or the first one of the
+   second of two surrogates. */
 static bool is_inside(const char *at) {
     const unsigned char *bytes = (const unsigned char *)at;
     return (bytes[0] & 0xc0) == 0x80 || (bytes[0] == 0xed && bytes[1] >= 0xb0);

@@ -31,7 +31,7 @@ static bool is_had(const mecab_lattice_t *lattice, bool nodes, fault *error) {
 void forget_path(mecab_lattice_t *lattice) {
     lattice->count = lattice->bad_bytes = 0;
     lattice->is_segmented = lattice->is_odd = lattice->has_long_word = lattice->is_printed = false;
-    lattice->is_placed = lattice->is_chained = lattice->is_told = false;
+    lattice->is_placed = lattice->is_chained = lattice->is_best_returned = false;
 }
 
 bool parse(mecab_model_t *model, mecab_lattice_t *lattice, bool nodes, fault *error) {

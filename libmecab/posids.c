@@ -150,8 +150,8 @@ static bool are_equal(const char *one, const char *other) {
     return *one == *other && strcmp(one, other) == 0;
 }
 
-/* Whether a pattern matches a field. One that starts with `*` matches every field, and one in
-   parentheses each of its texts between bars. (MeCab) */
+/* Returns whether a pattern matches a field. One that starts with `*` matches every field, and one
+   in parentheses each of its texts between bars. (MeCab) */
 static bool matches(const char *pattern, const char *field) {
     if (*pattern == '*' || are_equal(pattern, field)) return true;
     if (*pattern != '(') return false;

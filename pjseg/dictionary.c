@@ -2,12 +2,12 @@
 #include "pjseg.h"
 #include <stdlib.h>
 
-/* Whether an error means that images don't belong together. */
+/* Returns whether an error means that images don't belong together. */
 static bool is_of_overlay(uint32_t code) { return code >> 8 == 'O'; }
 
-static void say_loaded(const char *path) {
+static void log_loaded(const char *path) {
     char *line = is_verbose() ? one_line(path) : NULL;
-    if (line) say("loaded %s", line);
+    if (line) log_message("loaded %s", line);
     free(line);
 }
 
@@ -27,7 +27,7 @@ bool open_dictionary(const options *asked, kumquatsieve_dictionary **dictionary,
         kumquatsieve_dictionary_open(dictionary, asked->dic, (const char *const *)asked->users,
                                      asked->user_count, asked->flags, &error);
     bool is_loaded = code == KUMQUATSIEVE_OK || error.image > 0 || is_of_overlay(code);
-    if (is_loaded) say_loaded(asked->dic);
+    if (is_loaded) log_loaded(asked->dic);
     if (code != KUMQUATSIEVE_OK) set_fault(asked, &error, why);
     return code == KUMQUATSIEVE_OK;
 }

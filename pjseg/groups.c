@@ -15,29 +15,29 @@ enum {
     KEPT_LEAST = 262144,
 };
 
-bool make_place(place *own, const options *asked, kumquatsieve_dictionary *dictionary) {
+bool make_worker(worker *own, const options *asked, kumquatsieve_dictionary *dictionary) {
     own->group = GROUP_FIRST;
     own->text.bytes = malloc(PIECE_ROOM);
     return own->text.bytes && make_segmenter(asked, dictionary, &own->segmenter);
 }
 
-void free_place(place *own) {
+void free_worker(worker *own) {
     kumquatsieve_segmenter_close(&own->segmenter);
     free(own->text.bytes);
     free(own->kept);
 }
 
-void begin_piece(place *own) {
-    own->written_to = own->cut_to = 0;
+void begin_piece(worker *own) {
+    own->written_to = own->segmented_to = 0;
     own->printed = 0;
 }
 
 /* Returns the offset in the text at which the next group ends. */
-static size_t group_end(const place *own) {
+static size_t group_end(const worker *own) {
     const uint8_t *text = own->text.bytes;
-    size_t length = own->text.length, most = own->cut_to + own->group;
+    size_t length = own->text.length, most = own->segmented_to + own->group;
     if (most >= length) return length;
-    const uint8_t *feed = memrchr(text + own->cut_to, '\n', own->group);
+    const uint8_t *feed = memrchr(text + own->segmented_to, '\n', own->group);
     if (!feed) feed = memchr(text + most, '\n', length - most);
     return feed ? (size_t)(feed + 1 - text) : length;
 }
@@ -52,19 +52,19 @@ static size_t next_group(size_t group, size_t printed) {
     return printed <= PRINTED_MOST / 2 && group <= GROUP_MOST / 2 ? 2 * group : group;
 }
 
-bool segment_group(place *own) {
+bool segment_group(worker *own) {
     size_t end = group_end(own);
-    const char *from = (const char *)own->text.bytes + own->cut_to;
-    own->code = kumquatsieve_parse_lines(&own->segmenter, from, end - own->cut_to, &own->out,
+    const char *from = (const char *)own->text.bytes + own->segmented_to;
+    own->code = kumquatsieve_parse_lines(&own->segmenter, from, end - own->segmented_to, &own->out,
                                          &own->out_length, &own->lines, NULL);
-    own->cut_to = end;
+    own->segmented_to = end;
     own->group = next_group(own->group, own->out_length);
     own->printed += own->out_length;
     return own->code == KUMQUATSIEVE_OK && end < own->text.length;
 }
 
 /* Grows the memory for kept output to at least `needed` bytes, which are at most KEPT_MOST. */
-static bool grow_kept(place *own, size_t needed) {
+static bool grow_kept(worker *own, size_t needed) {
     size_t room = own->kept_room < KEPT_LEAST ? KEPT_LEAST : own->kept_room;
     while (room < needed) room *= 2;
     uint8_t *kept = realloc(own->kept, room);
@@ -74,7 +74,7 @@ static bool grow_kept(place *own, size_t needed) {
     return true;
 }
 
-bool keep_group(place *own) {
+bool keep_group(worker *own) {
     if (own->out_length > KEPT_MOST - own->kept_length) return false;
     size_t needed = own->kept_length + own->out_length;
     if (needed > own->kept_room && !grow_kept(own, needed)) return false;
@@ -84,13 +84,13 @@ bool keep_group(place *own) {
     return true;
 }
 
-void note_written(place *own) {
+void note_written(worker *own) {
     own->kept_length = 0;
     own->kept_lines = 0;
-    own->written_to = own->cut_to;
+    own->written_to = own->segmented_to;
 }
 
-size_t fitting_length(const place *own) {
+size_t fitting_length(const worker *own) {
     uint64_t printed = own->printed, length = own->text.length;
     if (printed <= KEPT_MOST / 2) return PIECE_MOST;
     uint64_t fitting = length * (KEPT_MOST / 2) / printed;

@@ -31,20 +31,20 @@ static void print_names(const texts *names) {
     FILE *to = open_memstream(&line, &length);
     if (!to) return;
     write_names(to, names);
-    if (fclose(to) == 0) tell("%s", line);
+    if (fclose(to) == 0) print_message("%s", line);
     free(line);
 }
 
 static void print_directory(const char *path) {
     char *line = one_line(path);
-    if (line) tell("searched %s", line);
+    if (line) print_message("searched %s", line);
     free(line);
 }
 
 /* Leaves out a line if memory runs out. */
-void tell_image_directories(const fault *why) {
+void print_image_directories(const fault *why) {
     texts paths, names;
-    if (why->code != KUMQUATSIEVE_FILE || !is_heard() || !is_missing(why->path)) return;
+    if (why->code != KUMQUATSIEVE_FILE || !is_interactive() || !is_missing(why->path)) return;
     if (!list_image_directories(&paths)) return;
     for (const char *path = next_text(&paths, NULL); path; path = next_text(&paths, path)) {
         print_directory(path);

@@ -261,7 +261,7 @@ static bool are_utf8(char **words, int count) {
 static bool read_words(reading *of) {
     step now = NEXT;
     if (!are_utf8(of->words, of->count)) {
-        tell("an argument is not UTF-8");
+        print_message("an argument is not UTF-8");
         return false;
     }
     while (now == NEXT && of->at < of->count) now = read_word(of);

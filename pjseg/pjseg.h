@@ -67,7 +67,7 @@ extern const char HELP[], VERSION[];
    fails is ignored. The line of the progress is erased before it. */
 
 /* Prints a message. */
-void tell(const char *format, ...) __attribute__((format(printf, 1, 2)));
+void print_message(const char *format, ...) __attribute__((format(printf, 1, 2)));
 
 /* Prints a message about the command line, and a hint at --help. */
 void print_usage_error(const char *format, ...) __attribute__((format(printf, 1, 2)));
@@ -85,16 +85,16 @@ bool print_text(const char *text);
 /* reporter.c. Turns the log messages of -v on. */
 void start_log(void);
 
-/* Whether they are on. */
+/* Returns whether log messages are on. */
 bool is_verbose(void);
 
-/* Whether a person reads standard error: with -v, and on a terminal. */
-bool is_heard(void);
+/* Returns whether a person reads standard error: with -v, and on a terminal. */
+bool is_interactive(void);
 
 /* Prints a log message with the seconds since the start, if these messages are on. */
-void say(const char *format, ...) __attribute__((format(printf, 1, 2)));
+void log_message(const char *format, ...) __attribute__((format(printf, 1, 2)));
 
-/* texts.c. Whether a text is UTF-8. */
+/* texts.c. Returns whether a text is UTF-8. */
 bool is_utf8(const char *text);
 
 /* Returns a text with its control characters escaped, which the caller frees, or NULL if memory
@@ -111,7 +111,7 @@ typedef struct texts {
    memory runs out. If no image has the name, it is the name itself. */
 char *find_image(const char *name);
 
-/* Whether a name is a bare one that neither a file nor an image has. */
+/* Returns whether a name is a bare one that neither a file nor an image has. */
 bool is_missing(const char *name);
 
 /* List the image directories, and the names of the images in them. The caller frees `first`. They
@@ -122,12 +122,12 @@ bool list_image_names(texts *list);
 /* Returns the text that follows `text`, the first one if that is NULL, or NULL after the last. */
 const char *next_text(const texts *list, const char *text);
 
-/* Whether a directory has a dictionary of MeCab. */
+/* Returns whether a directory has a dictionary of MeCab. */
 bool is_mecab_directory(const char *path);
 
 /* missing.c. Prints the directories that were searched for an image, and the images in them, on a
    terminal or with -v. Prints nothing unless the error is that no image has the name. */
-void tell_image_directories(const fault *why);
+void print_image_directories(const fault *why);
 
 /* formats.c. Checks the format of the options. Returns false, and sets *why, if it is invalid. */
 bool check_format(const options *asked, fault *why);
@@ -178,17 +178,18 @@ void free_input(input *in);
  * PIECE_MOST. */
 void read_piece(input *in, piece *next, size_t least);
 
-/* groups.c. A piece that is segmented group by group, and the output that waits to be written.
+/* groups.c. A piece that is segmented group by group, its segmenter, and the output that waits to
+   be written.
 
    The output of the last group lies in the segmenter's own buffer: `out`, with the group's `lines`
    or, if `code` is an error, the number of the invalid line. The output of the groups before it is
-   copied to `kept`. Both come from the text between `written_to` and `cut_to`. `printed` is the
-   output of the whole piece so far, in bytes. */
-typedef struct place {
+   copied to `kept`. Both come from the text between `written_to` and `segmented_to`. `printed` is
+   the output of the whole piece so far, in bytes. */
+typedef struct worker {
     piece text;
     uint64_t number;
     kumquatsieve_segmenter segmenter;
-    size_t group, written_to, cut_to;
+    size_t group, written_to, segmented_to;
     uint8_t *kept;
     size_t kept_length, kept_room;
     uint64_t kept_lines;
@@ -197,34 +198,34 @@ typedef struct place {
     uint64_t lines;
     uint32_t code;
     uint64_t printed;
-    bool is_cut;
-} place;
+    bool is_segmented;
+} worker;
 
-/* How many bytes of output a place keeps at most. */
+/* How many bytes of output a worker keeps at most. */
 enum { KEPT_MOST = 16777216 };
 
-/* Makes a place with a segmenter over the dictionary. Returns false if memory runs out. The caller
-   frees the place in each case. */
-bool make_place(place *own, const options *asked, kumquatsieve_dictionary *dictionary);
-void free_place(place *own);
+/* Makes a worker with a segmenter over the dictionary. Returns false if memory runs out. The caller
+   frees the worker in each case. */
+bool make_worker(worker *own, const options *asked, kumquatsieve_dictionary *dictionary);
+void free_worker(worker *own);
 
-/* Prepares a place for the piece that was read into it. */
-void begin_piece(place *own);
+/* Prepares a worker for the piece that was read into it. */
+void begin_piece(worker *own);
 
 /* Segments the next group. Returns whether another one follows: false at the end of the piece, and
    after an error. */
-bool segment_group(place *own);
+bool segment_group(worker *own);
 
 /* Copies the output of the last group to what is kept. Returns false, and changes nothing, if it
    does not fit, or if no memory can be allocated for it. */
-bool keep_group(place *own);
+bool keep_group(worker *own);
 
 /* Notes that all waiting output was written. */
-void note_written(place *own);
+void note_written(worker *own);
 
 /* Returns how many bytes the next piece should have so that its output can be kept, if it prints as
    this one did. */
-size_t fitting_length(const place *own);
+size_t fitting_length(const worker *own);
 
 /* warnings.c. The warnings about the text that were not printed yet: of a byte order mark, and of a
    carriage return at the end of a line. */

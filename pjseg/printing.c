@@ -32,7 +32,7 @@ static void print_between(const char *before, const char *behind, const char *fo
     free(text);
 }
 
-void tell(const char *format, ...) {
+void print_message(const char *format, ...) {
     va_list words;
     va_start(words, format);
     print_between(PROGRAM ": ", "\n", format, words);
@@ -83,11 +83,11 @@ static bool has_number(uint32_t code) {
 static void print_path_error(const fault *why, const char *name) {
     char *path = one_line(why->path);
     if (!path) {
-        tell("Memory");
+        print_message("Memory");
     } else if (has_number(why->code)) {
-        tell("%s: %s %llu", path, name, (unsigned long long)why->number);
+        print_message("%s: %s %llu", path, name, (unsigned long long)why->number);
     } else {
-        tell("%s: %s", path, name);
+        print_message("%s: %s", path, name);
     }
     free(path);
 }
@@ -109,11 +109,11 @@ int print_fault(const fault *why) {
     if (why->path) {
         print_path_error(why, name);
     } else if (why->code == KUMQUATSIEVE_MEMORY || why->code == FAULT_OUTPUT) {
-        tell("%s", name);
+        print_message("%s", name);
     } else if (why->code == FAULT_WRITE || why->code >> 8 == 'P') {
-        tell("%s %llu", name, (unsigned long long)why->number);
+        print_message("%s %llu", name, (unsigned long long)why->number);
     } else {
-        tell("line %llu: %s", (unsigned long long)why->number, name);
+        print_message("line %llu: %s", (unsigned long long)why->number, name);
     }
     return status_of(why->code);
 }
@@ -135,8 +135,8 @@ static void print_mark(const char *text, size_t at) {
     char *front = strndup(text, at), *before = front ? one_line(front) : NULL,
          *line = one_line(text);
     if (before && line) {
-        tell("%s", line);
-        tell("%*s^", columns_of(before), "");
+        print_message("%s", line);
+        print_message("%*s^", columns_of(before), "");
     }
     free(line);
     free(before);
@@ -145,7 +145,7 @@ static void print_mark(const char *text, size_t at) {
 
 static void print_format(const options *asked, const fault *why) {
     const char *const texts[] = {asked->node, asked->unk, asked->bos, asked->eos};
-    tell("the error is in the format of %s", OPTION_OF_PART[why->part % 4]);
+    print_message("the error is in the format of %s", OPTION_OF_PART[why->part % 4]);
     if (texts[why->part % 4]) print_mark(texts[why->part % 4], why->number);
 }
 
@@ -163,13 +163,13 @@ static const char *reason_of(uint64_t error) {
 
 static void print_reason(const char *of, uint64_t error) {
     char *path = one_line(of);
-    if (path) tell("%s: %s", path, reason_of(error));
+    if (path) print_message("%s: %s", path, reason_of(error));
     free(path);
 }
 
 /* Prints why a file can't be read, or which option has the invalid format, and where. */
 void print_cause(const options *asked, const fault *why) {
-    if (!is_heard()) return;
+    if (!is_interactive()) return;
     if (why->code == KUMQUATSIEVE_FILE) print_reason(why->path, why->number);
     if (why->code >> 8 == 'P') print_format(asked, why);
 }
@@ -178,6 +178,6 @@ void print_cause(const options *asked, const fault *why) {
 void print_explanation(const fault *why) {
     char name[64] = "";
     name_of(why->code, name, sizeof name);
-    if (is_heard())
-        tell("'jseg --explain %.*s' explains this error", (int)strcspn(name, " "), name);
+    if (is_interactive())
+        print_message("'jseg --explain %.*s' explains this error", (int)strcspn(name, " "), name);
 }

@@ -1,9 +1,9 @@
-/* The queue of pieces. Each thread takes the next piece of the text and segments it with the
-   segmenter of the piece's place in the queue. If the piece is next in order, the thread writes the
+/* The queue of pieces. Each thread takes the next piece of the text with a free worker, and
+   segments it with the worker's segmenter. If the piece is next in order, the thread writes the
    output of each group of lines at once. If not, it keeps the output up to a limit, and then waits
    until the piece is next. A piece that is complete before it is next is written by the thread that
    writes the piece before it. One thread reads at a time and one writes. No thread holds the lock
-   while it reads, segments or writes. The queue has as many places as there are threads, the main
+   while it reads, segments or writes. The queue has as many workers as there are threads, the main
    thread included.
 
    There is no deadlock: a thread only waits for pieces before its own, and the thread of the piece
@@ -20,7 +20,7 @@
 typedef struct queue {
     pthread_mutex_t lock;
     pthread_cond_t changed;
-    place *places;
+    worker *workers;
     size_t room, least;
     uint64_t taken, written;
     bool is_reading, is_writing, is_ended;
@@ -37,10 +37,10 @@ static _Noreturn void end_early(uint32_t code, uint64_t number) {
     _exit(status);
 }
 
-/* Writes the waiting output of a place. Ends the program if that fails, or the text is invalid. */
-static void write_waiting(queue *of, place *next) {
+/* Writes the waiting output of a worker. Ends the program if that fails, or the text is invalid. */
+static void write_waiting(queue *of, worker *next) {
     const uint8_t *text = next->text.bytes + next->written_to;
-    size_t length = next->cut_to - next->written_to;
+    size_t length = next->segmented_to - next->written_to;
     uint64_t lines = next->kept_lines + next->lines;
     bool is_fault = next->code != KUMQUATSIEVE_OK;
     warn_of(&of->warnings, text, length, of->lines, is_fault ? lines - 1 : lines);
@@ -54,7 +54,7 @@ static void write_waiting(queue *of, place *next) {
     print_progress(of->passed);
 }
 
-static void write_piece(queue *of, place *next) {
+static void write_piece(queue *of, worker *next) {
     write_waiting(of, next);
     switch (next->text.ending) {
     case READ_FAILED: end_early(FAULT_READ, of->lines + 1);
@@ -64,11 +64,11 @@ static void write_piece(queue *of, place *next) {
     }
 }
 
-static place *place_of(queue *of, uint64_t number) { return &of->places[number % of->room]; }
+static worker *worker_of(queue *of, uint64_t number) { return &of->workers[number % of->room]; }
 
-/* Reads the next piece into its place. Releases the lock during the read. */
-static place *read_next(queue *of) {
-    place *next = place_of(of, of->taken);
+/* Reads the next piece into its worker. Releases the lock during the read. */
+static worker *read_next(queue *of) {
+    worker *next = worker_of(of, of->taken);
     size_t least = of->least;
     next->number = of->taken++;
     of->is_reading = true;
@@ -82,9 +82,9 @@ static place *read_next(queue *of) {
     return next;
 }
 
-/* Waits for a free place. Returns it with the next piece of the text, or NULL at the end. */
-static place *take(queue *of) {
-    place *next = NULL;
+/* Waits for a free worker. Returns it with the next piece of the text, or NULL at the end. */
+static worker *take(queue *of) {
+    worker *next = NULL;
     pthread_mutex_lock(&of->lock);
     while (!of->is_ended && (of->is_reading || of->taken - of->written == of->room))
         pthread_cond_wait(&of->changed, &of->lock);
@@ -93,23 +93,23 @@ static place *take(queue *of) {
     return next;
 }
 
-/* Whether a piece is next in order. It stays next until its own thread calls `give`, so that thread
-   may write without the lock. */
-static bool has_turn(queue *of, const place *own) {
+/* Returns whether a piece is next in order. It stays next until its own thread calls `give`, so
+   that thread may write without the lock. */
+static bool has_turn(queue *of, const worker *own) {
     pthread_mutex_lock(&of->lock);
     bool is_next = of->written == own->number;
     pthread_mutex_unlock(&of->lock);
     return is_next;
 }
 
-static void wait_for_turn(queue *of, const place *own) {
+static void wait_for_turn(queue *of, const worker *own) {
     pthread_mutex_lock(&of->lock);
     while (of->written != own->number) pthread_cond_wait(&of->changed, &of->lock);
     pthread_mutex_unlock(&of->lock);
 }
 
 /* Writes or keeps the output of a group, unless it is the last one of its piece. */
-static void pass_on(queue *of, place *own) {
+static void pass_on(queue *of, worker *own) {
     if (!has_turn(of, own)) {
         if (keep_group(own)) return;
         wait_for_turn(of, own);
@@ -118,16 +118,16 @@ static void pass_on(queue *of, place *own) {
 }
 
 /* Marks a piece as complete, and writes the complete pieces that are next in order. */
-static void give(queue *of, place *own) {
+static void give(queue *of, worker *own) {
     pthread_mutex_lock(&of->lock);
-    own->is_cut = true;
-    while (!of->is_writing && of->written < of->taken && place_of(of, of->written)->is_cut) {
-        place *next = place_of(of, of->written);
+    own->is_segmented = true;
+    while (!of->is_writing && of->written < of->taken && worker_of(of, of->written)->is_segmented) {
+        worker *next = worker_of(of, of->written);
         of->is_writing = true;
         pthread_mutex_unlock(&of->lock);
         write_piece(of, next);
         pthread_mutex_lock(&of->lock);
-        next->is_cut = false;
+        next->is_segmented = false;
         of->least = fitting_length(next);
         of->written++;
         of->is_writing = false;
@@ -138,7 +138,7 @@ static void give(queue *of, place *own) {
 
 static void *serve(void *given) {
     queue *of = given;
-    place *own;
+    worker *own;
     while ((own = take(of))) {
         while (segment_group(own)) pass_on(of, own);
         give(of, own);
@@ -146,18 +146,18 @@ static void *serve(void *given) {
     return NULL;
 }
 
-static bool make_places(queue *of, const options *asked, kumquatsieve_dictionary *dictionary) {
-    of->places = calloc(of->room, sizeof *of->places);
-    if (!of->places || !make_input(&of->in)) return false;
+static bool make_workers(queue *of, const options *asked, kumquatsieve_dictionary *dictionary) {
+    of->workers = calloc(of->room, sizeof *of->workers);
+    if (!of->workers || !make_input(&of->in)) return false;
     for (size_t i = 0; i < of->room; i++) {
-        if (!make_place(&of->places[i], asked, dictionary)) return false;
+        if (!make_worker(&of->workers[i], asked, dictionary)) return false;
     }
     return true;
 }
 
-static void free_places(queue *of) {
-    for (size_t i = 0; of->places && i < of->room; i++) free_place(&of->places[i]);
-    free(of->places);
+static void free_workers(queue *of) {
+    for (size_t i = 0; of->workers && i < of->room; i++) free_worker(&of->workers[i]);
+    free(of->workers);
     free_input(&of->in);
 }
 
@@ -166,7 +166,7 @@ static void free_places(queue *of) {
 static void serve_by(queue *of, pthread_t *others, uint32_t wanted) {
     uint32_t made = 0;
     while (made < wanted && pthread_create(&others[made], NULL, serve, of) == 0) made++;
-    say("%u of %u threads", made + 1, wanted + 1);
+    log_message("%u of %u threads", made + 1, wanted + 1);
     serve(of);
     for (uint32_t i = 0; i < made; i++) pthread_join(others[i], NULL);
 }
@@ -180,12 +180,12 @@ bool segment_input(const options *asked, kumquatsieve_dictionary *dictionary, ui
         .warnings = wanted_warnings(),
     };
     pthread_t *others = calloc(asked->threads, sizeof *others);
-    bool is_made = others && make_places(&own, asked, dictionary);
+    bool is_made = others && make_workers(&own, asked, dictionary);
     begin_progress();
     if (is_made) serve_by(&own, others, asked->threads - 1);
     erase_progress();
     *lines = own.lines;
-    free_places(&own);
+    free_workers(&own);
     free(others);
     return is_made;
 }

@@ -95,7 +95,7 @@ const char *instead_of_letter(char letter) {
     return NULL;
 }
 
-/* Whether a word is `--` and `name`, alone or followed by `=` and a value. */
+/* Returns whether a word is `--` and `name`, alone or followed by `=` and a value. */
 static bool is_long(const char *word, const char *name) {
     size_t length = strlen(name);
     if (strncmp(word, "--", 2) != 0 || strncmp(word + 2, name, length) != 0) return false;

@@ -14,9 +14,9 @@ void start_log(void) { verbose = clock_gettime(CLOCK_MONOTONIC, &began) == 0; }
 
 bool is_verbose(void) { return verbose; }
 
-bool is_heard(void) { return verbose || isatty(STDERR_FILENO); }
+bool is_interactive(void) { return verbose || isatty(STDERR_FILENO); }
 
-void say(const char *format, ...) {
+void log_message(const char *format, ...) {
     struct timespec now;
     va_list words;
     char *text = NULL;
@@ -26,6 +26,6 @@ void say(const char *format, ...) {
     int made = vasprintf(&text, format, words);
     va_end(words);
     if (made < 0) return;
-    tell("%ld.%02ld s: %s", hundredths / 100, hundredths % 100, text);
+    print_message("%ld.%02ld s: %s", hundredths / 100, hundredths % 100, text);
     free(text);
 }

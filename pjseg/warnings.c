@@ -5,7 +5,7 @@
 static const uint8_t MARK[] = {0xef, 0xbb, 0xbf};
 
 warnings wanted_warnings(void) {
-    bool is_wanted = is_heard();
+    bool is_wanted = is_interactive();
     return (warnings){.of_mark = is_wanted, .of_return = is_wanted};
 }
 
@@ -33,12 +33,13 @@ void warn_of(warnings *left, const uint8_t *text, size_t length, uint64_t before
     if (lines == 0 || !(left->of_mark || left->of_return)) return;
     bool has_mark = length >= sizeof MARK && memcmp(text, MARK, sizeof MARK) == 0;
     if (left->of_mark && before == 0 && has_mark) {
-        tell("warning: the text begins with a byte order mark (U+FEFF); it is segmented as text");
+        print_message(
+            "warning: the text begins with a byte order mark (U+FEFF); it is segmented as text");
     }
     left->of_mark = false;
     uint64_t number = left->of_return ? first_return(text, length) : 0;
     if (number == 0 || number > lines) return;
     unsigned long long line = before + number;
-    tell("warning: line %llu ends with a carriage return; it is segmented as text", line);
+    print_message("warning: line %llu ends with a carriage return; it is segmented as text", line);
     left->of_return = false;
 }

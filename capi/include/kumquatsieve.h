@@ -11,9 +11,9 @@
    `error`. No output overlaps another argument.
 
    Each call that can fail returns KUMQUATSIEVE_OK or a code, and fills *error. After a failure its
-   outputs, the dictionary and the segmenter are unchanged unless its comment says otherwise. Each
+   outputs, the dictionary and the segmenter are unchanged unless its comment states otherwise. Each
    may return KUMQUATSIEVE_MEMORY, and K9 for a NULL that is not accepted or an unknown flag; its
-   comment names the other codes. Unless it says otherwise, a borrowed result is valid until the
+   comment names the other codes. Unless it states otherwise, a borrowed result is valid until the
    next call with the segmenter. */
 #include <stdbool.h>
 #include <stddef.h>
@@ -84,7 +84,7 @@ enum {
 /* Flags. Each call takes 0 or a sum of those that its comment names. */
 enum {
     KUMQUATSIEVE_SKIP_DIGEST = 1, /* don't test the SHA-256 */
-    KUMQUATSIEVE_TEST_DIGEST = 2, /* test the SHA-256 and everything else, whatever a record says */
+    KUMQUATSIEVE_TEST_DIGEST = 2, /* run all tests, the SHA-256 too, and ignore records of tests */
     KUMQUATSIEVE_COPY = 4,        /* read the file into memory instead of mapping it */
     KUMQUATSIEVE_TRUSTED = 8,     /* make no tests; undefined behavior if an image fails one */
     KUMQUATSIEVE_WHOLE = 16,      /* a line feed is a character like others, as in libmecab */

@@ -106,7 +106,7 @@ static size_t read_text(const char *path, char *text, size_t room) {
     return length;
 }
 
-/* Whether a line names the SHA-256 of another image. */
+/* Returns whether a line names the SHA-256 of another image. */
 static bool is_of_another(const char *line, size_t length, const uint8_t sha256[SHA256_LENGTH]) {
     char wanted[sizeof CHECKSUM + 2 * SHA256_LENGTH];
     size_t start = strlen(CHECKSUM);

@@ -72,12 +72,13 @@ static const struct {
                  "\\s \\\\.")},
     {KUMQUATSIEVE_BAD_ITEM,
      EXPLANATION("P2 BadItem", "A format has a % before a letter that is no item there.",
-                 "Only MeCab has the item, or it is an item of words in the text for the start or "
-                 "the end of a line.",
+                 "Only MeCab has the item, such as %F, or it is an item of words in the text for "
+                 "the start or the end of a line.",
                  "Write %% for a percent sign. jseg(1) lists the items.")},
     {KUMQUATSIEVE_BAD_INDEX,
      EXPLANATION("P3 BadIndex", "A format has %f without a number of 0 to 65,535 in brackets.",
-                 "MeCab's %f[0,1] and %F-[0,1] are not supported.", "Write %f[0]-%f[1].")},
+                 "The index is missing, or there are several, as in MeCab's %f[0,1].",
+                 "Write an item for each field, such as %f[0]-%f[1].")},
     {KUMQUATSIEVE_NOT_UTF8,
      EXPLANATION("G3 NotUtf8", "The text is not UTF-8 at this byte.",
                  "The text is in EUC-JP or Shift_JIS, or it is damaged.",

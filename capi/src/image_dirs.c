@@ -25,7 +25,7 @@ bool is_regular_file(const char *path) {
     return state_at(path, &of) == 0 && S_ISREG(of.st_mode);
 }
 
-/* Whether `path` leads to something that is no directory. */
+/* Returns whether `path` leads to something that is no directory. */
 static bool is_file(const char *path) {
     struct stat of;
     return state_at(path, &of) == 0 && !S_ISDIR(of.st_mode);
@@ -113,10 +113,7 @@ static bool find_installed(const char *name, char **path) {
 static uint32_t fail_path(const char *name, size_t number, kumquatsieve_error *error) {
     struct stat of;
     int why = state_at(name, &of) == 0 ? EISDIR : errno;
-    if (why != ENOENT) return fail_file(error, why, number, name);
-    return fail_name(error, number, name,
-                     "no such file, and no image of this name is installed; kumquatsieve-import "
-                     "makes one");
+    return why == ENOENT ? fail_unknown(error, number, name) : fail_file(error, why, number, name);
 }
 
 /* Sets *path to the path that `name` means: its own, or that of an installed image. */

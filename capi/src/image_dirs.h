@@ -28,8 +28,8 @@ uint32_t resolve_name(const char *name, size_t number, char **path, kumquatsieve
    out. */
 char *path_in(const char *directory, const char *file, const char *suffix);
 
-/* Whether `path` leads to a regular file, as every image in an image directory is. Whoever opens a
-   pipe would wait for a writer. */
+/* Returns whether `path` leads to a regular file, as every image in an image directory is. Whoever
+   opens a pipe would wait for a writer. */
 bool is_regular_file(const char *path);
 
 /* Copies `count` texts to `out`, one after another, each with its zero byte. Sets *needed, unless
@@ -41,4 +41,8 @@ uint32_t copy_texts(const char *const *texts, size_t count, char *out, size_t ro
 /* installed.c. Sets *count to the number of system dictionaries that are installed, and *path,
    which the caller frees, to the path of one of them. Returns false if memory runs out. */
 bool only_system_image(char **path, size_t *count);
+
+/* Reports that neither a file nor an image has a bare name, with the directories that were searched
+   and the names of the images there. */
+uint32_t fail_unknown(kumquatsieve_error *error, size_t number, const char *name);
 #endif

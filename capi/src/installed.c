@@ -3,6 +3,7 @@
 #include <dirent.h>
 #include <errno.h>
 #include <fcntl.h>
+#include <stdio.h>
 #include <stdlib.h>
 #include <string.h>
 #include <unistd.h>
@@ -114,7 +115,7 @@ uint32_t kumquatsieve_list_images(char *paths, size_t room, size_t *needed,
     return code;
 }
 
-/* Whether a file starts as the image of a system dictionary (docs/FORMAT.md). */
+/* Returns whether a file starts as the image of a system dictionary (docs/FORMAT.md). */
 static bool is_system(const char *path) {
     static const uint8_t START[] = {'M', 'J', 'D', 'I', 'C', 'T', '\r', '\n'};
     enum { KIND_AT = 12, START_LENGTH = 16 };
@@ -141,4 +142,34 @@ bool only_system_image(char **path, size_t *count) {
     }
     free_paths(&found);
     return has_memory;
+}
+
+/* The sentence of an error. What is longer than a message is left out. */
+typedef struct sentence {
+    char text[sizeof((kumquatsieve_error *)NULL)->message];
+} sentence;
+
+static void append(sentence *to, const char *between, const char *text) {
+    size_t length = strlen(to->text);
+    snprintf(to->text + length, sizeof to->text - length, "%s%s", between, text);
+}
+
+uint32_t fail_unknown(kumquatsieve_error *error, size_t number, const char *name) {
+    sentence why = {"no such image"};
+    image_dirs dirs = {.count = 0};
+    image_paths found;
+    if (!error) return KUMQUATSIEVE_FILE;
+    bool has_memory = find_images(&found) && find_image_dirs(&dirs);
+    for (size_t i = 0; i < dirs.count; i++)
+        append(&why, i == 0 ? "; searched " : ", ", dirs.paths[i]);
+    append(&why, "; available images: ", found.count == 0 ? "none" : "");
+    for (size_t i = 0; i < found.count; i++) {
+        char *path = found.all[i];
+        path[strlen(path) - strlen(IMAGE_END)] = 0;
+        append(&why, i == 0 ? "" : ", ", file_of(path));
+    }
+    append(&why, "; ", "compile an image with kumquatsieve-import");
+    free_image_dirs(&dirs);
+    free_paths(&found);
+    return has_memory ? fail_name(error, number, name, why.text) : fail(error, KUMQUATSIEVE_MEMORY);
 }

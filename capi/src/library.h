@@ -8,7 +8,7 @@
 /* The exports of the proved core, by the names that packaging/build-library gives them. They read
    and write the first two fields of a segmenter only. A text has an address, also if its length is
    0, and so has each output. After an error the segmenter and all outputs are unchanged unless a
-   comment says otherwise. */
+   comment states otherwise. */
 
 /* A word and a node of the core. The public ones have the same fields and `feature_offset`. */
 typedef struct core_word {
@@ -142,8 +142,8 @@ uint32_t load_next(loading *of, bool is_tested, kumquatsieve_error *error);
 /* Reports the error of images that don't belong together, or describes the images. */
 uint32_t end_loading(const loading *of, kumquatsieve_error *error);
 
-/* Whether the flags say that an image passes all tests, and its header has the newest layout and
-   the length of the image. */
+/* Returns whether the flags vouch for all tests of an image, and its header has the newest layout
+   and the length of the image. */
 bool is_trusted(const image *of, uint32_t flags);
 
 /* describing.c. Sets the info of an image that was loaded, and its categories. Returns false if
@@ -173,12 +173,12 @@ void unmap(image *of);
 int state_of(int file, struct stat *of);
 int state_at(const char *path, struct stat *of);
 
-/* Whether both are states of the same file, with the same size and times. */
+/* Returns whether both are states of the same file, with the same size and times. */
 bool are_same_file(const struct stat *one, const struct stat *other);
 
-/* record.c. Whether a record beside the image `name` in `directory` says that the open file `image`
-   passed all tests, and can be believed. `of` is the state of the open file, and `layout` the
-   layout in its header. */
+/* record.c. Returns whether a valid record beside the image `name` in `directory` states that the
+   open file `image` passed all tests. `of` is the state of the open file, and `layout` the layout
+   in its header. */
 bool has_record(int directory, const char *name, int image, const struct stat *of, uint64_t layout);
 
 /* reading.c. The first bytes of an image, from which its length is known before the rest is read or

@@ -4,8 +4,8 @@
 /* The sum of the flags that a call takes. */
 enum { LOAD_FLAGS = KUMQUATSIEVE_SKIP_DIGEST | KUMQUATSIEVE_TRUSTED };
 
-/* Whether an error means that images don't belong together. It is reported after the errors of each
-   image by itself. */
+/* Returns whether an error means that images don't belong together. It is reported after the errors
+   of each image by itself. */
 static bool is_of_overlay(uint32_t code) { return code >> 8 == 'O'; }
 
 static uint32_t load(kumquatsieve_segmenter *base, const image *from, bool is_user,

@@ -2,8 +2,8 @@
    segmenter of the call's own segments. */
 #include "segmenter.h"
 
-/* Whether a node is an entry that the flags ask for, of a text of `length` bytes. The line has no
-   word before it, so its place is 0. */
+/* Returns whether a node is an entry that the flags ask for, of a text of `length` bytes. The line
+   has no word before it, so its place is 0. */
 static bool is_wanted(const kumquatsieve_node *node, size_t length, uint32_t flags) {
     const kumquatsieve_word *word = &node->word;
     if (flags & KUMQUATSIEVE_PREFIXES) return word->place == 0;

@@ -114,7 +114,7 @@ static uint32_t open_files(kumquatsieve_dictionary *to, const char *name, const 
     return code;
 }
 
-/* Whether all files are regular. Others have their bytes once. */
+/* Returns whether all files are regular. Others have their bytes once. */
 static bool is_regular(const kumquatsieve_dictionary *of) {
     for (size_t i = 0; i < of->count; i++) {
         if (!S_ISREG(of->images[i].of.st_mode)) return false;

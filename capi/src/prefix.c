@@ -48,7 +48,7 @@ static bool to_parent(char *path) {
 
 static const char PROGRAM[] = "/bin/jseg", OTHER_PROGRAM[] = "/bin/pjseg";
 
-/* Whether a directory has a program. The path has room for its name. */
+/* Returns whether a directory has a program. The path has room for its name. */
 static bool has_program(char *path, const char *program) {
     size_t length = strlen(path);
     strcpy(path + length, program);

@@ -33,8 +33,8 @@ static const uint32_t LOCAL[] = {
     0xe0f5e1e2, /* EROFS */
 };
 
-/* Whether a file is on such a file system, which isn't mounted nosuid either. A medium that a
-   stranger made may show any owner, inode and time, and is mounted nosuid for the same reason. */
+/* Returns whether a file is on such a file system, which isn't mounted nosuid either. A medium that
+   a stranger made may show any owner, inode and time, and is mounted nosuid for the same reason. */
 static bool is_local(int file) {
     struct statfs on;
     if (fstatfs(file, &on) != 0 || (on.f_flags & ST_NOSUID) != 0) return false;
@@ -44,7 +44,7 @@ static bool is_local(int file) {
     return false;
 }
 
-/* Whether only root and the effective user can have written an open file or directory. */
+/* Returns whether only root and the effective user can have written an open file or directory. */
 static bool is_own(int file, const struct stat *of) {
     bool is_owner = of->st_uid == 0 || of->st_uid == geteuid();
     return is_owner && (of->st_mode & (S_IWGRP | S_IWOTH)) == 0 && is_local(file);
@@ -72,7 +72,7 @@ static size_t expect(const struct stat *of, char *text, size_t room) {
     return written > 0 && (size_t)written < room ? (size_t)written : 0;
 }
 
-/* Whether `text` is exactly the text of a record for an image in the state `of`. */
+/* Returns whether `text` is exactly the text of a record for an image in the state `of`. */
 static bool is_record_of(const char *text, size_t length, const struct stat *of) {
     char wanted[RECORD_MOST];
     size_t start = expect(of, wanted, sizeof wanted);
@@ -81,7 +81,7 @@ static bool is_record_of(const char *text, size_t length, const struct stat *of)
     return strspn(text + start, "0123456789abcdef") == DIGITS && text[length - 1] == '\n';
 }
 
-/* Whether an open record is for an image in the state `image`, and can be believed. */
+/* Returns whether an open record is for an image in the state `image`, and can be believed. */
 static bool is_believed(int record, const struct stat *image) {
     char text[RECORD_MOST + 1];
     struct stat of;
@@ -92,7 +92,8 @@ static bool is_believed(int record, const struct stat *image) {
     return is_record_of(text, (size_t)got, image);
 }
 
-/* Whether there is such a record beside the image `name`. Doesn't wait for a pipe or a device. */
+/* Returns whether there is such a record beside the image `name`. Doesn't wait for a pipe or a
+   device. */
 static bool is_recorded(int directory, const char *name, const struct stat *of) {
     char record_name[NAME_MAX + 1];
     if (!name_record(name, record_name, sizeof record_name)) return false;

@@ -180,6 +180,37 @@ static void check_lists(const char *folder) {
     free(out);
 }
 
+/* The messages of names that no image has: the directories and the names in their order, cut off
+   before a character that does not fit. */
+#define NOWHERE "/d/kumquatsieve, /p/var/lib/kumquatsieve, /p/share/kumquatsieve"
+#define THERE "prefix/var/lib/kumquatsieve, prefix/share/kumquatsieve"
+#define ASCII_NAMES                                                                                \
+    "0, 1, 2, 3, 4, 5, 6, 7, 8, 9, all, both, broken, fifo, folder, here, made, own, shared"
+#define FIFTY "12345678901234567890123456789012345678901234567890"
+#define HINT "compile an image with kumquatsieve-import (F1 File)"
+static const struct {
+    const char *data_home, *prefix, *name, *wanted;
+} MESSAGES[] = {
+    {"/d", "/p", "none",
+     "none: no such image; searched " NOWHERE "; available images: none; " HINT},
+    {NULL, "prefix", "none",
+     "none: no such image; searched " THERE "; available images: " ASCII_NAMES ", あ; " HINT},
+    {NULL, "prefix", FIFTY "123456",
+     FIFTY "123456: no such image; searched " THERE "; available images: " ASCII_NAMES
+           ",  (F1 File)"},
+};
+
+static void check_messages(void) {
+    kumquatsieve_error error;
+    for (size_t i = 0; i < COUNT_OF(MESSAGES); i++) {
+        prefix = MESSAGES[i].prefix;
+        set_variable("XDG_DATA_HOME", MESSAGES[i].data_home);
+        CHECK(kumquatsieve_find_image(MESSAGES[i].name, NULL, 0, NULL, &error) ==
+              KUMQUATSIEVE_FILE);
+        CHECK_CASE(MESSAGES[i].name, strcmp(error.message, MESSAGES[i].wanted) == 0);
+    }
+}
+
 /* Which directories are searched without a variable, and elsewhere. */
 static void check_searched(const char *folder) {
     const request made = {NULL, "made"}, own = {NULL, "own"},
@@ -241,7 +272,8 @@ int main(int given, char **arguments) {
     check_lists(arguments[1]);
     check_searched(arguments[1]);
     check_default(arguments[1]);
+    check_messages();
     printf("%zu cases of image directories, and %zu of names of images\n", COUNT_OF(DIRECTORIES),
-           COUNT_OF(NAMES));
+           COUNT_OF(NAMES) + COUNT_OF(MESSAGES));
     return 0;
 }

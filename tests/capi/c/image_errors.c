@@ -45,14 +45,6 @@ static const struct {
     size_t image;
     const char *message;
 } OPENED[] = {
-    {"no file",
-     {"none.img"},
-     0,
-     KUMQUATSIEVE_FILE,
-     ENOENT,
-     0,
-     "none.img: no such file, and no image of this name is installed; kumquatsieve-import makes "
-     "one (F1 File)"},
     {"no path",
      {"./none.img"},
      0,
@@ -160,6 +152,17 @@ static void opened(void) {
     }
 }
 
+/* The name of a user dictionary that no image has. image_dirs.c tests the rest of the message. */
+static void unknown_name(void) {
+    static const char START[] = "none.img: no such image; searched /";
+    static const char *const USER = "none.img";
+    kumquatsieve_error error;
+    CHECK(kumquatsieve_dictionary_open(NULL, "system.img", &USER, 1, 0, &error) ==
+          KUMQUATSIEVE_FILE);
+    CHECK(error.number == ENOENT && error.image == 1);
+    CHECK(strncmp(error.message, START, strlen(START)) == 0);
+}
+
 /* Images in memory have no name. */
 static void from_memory(void) {
     kumquatsieve_error error;
@@ -190,6 +193,7 @@ int main(int given, char **paths) {
     CHECK(chdir(paths[3]) == 0);
     make_files();
     opened();
+    unknown_name();
     from_memory();
     long_paths();
     free(sys.bytes);

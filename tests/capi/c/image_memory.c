@@ -1,7 +1,7 @@
-/* Makes each call that finds installed images once, while an allocation fails: image_memory NAME
-   PATH DIRECTORIES PATHS. The last three are the expected results, with `|` for each zero byte. The
-   status is 3 if one call was out of memory. Nothing is printed, so the program itself doesn't
-   allocate. */
+/* Makes each call that finds installed images, and one with a name of no image, while an allocation
+   fails: image_memory NAME PATH DIRECTORIES PATHS. The last three are the expected results, with
+   `|` for each zero byte. The status is 3 if one call was out of memory. Nothing is printed, so the
+   program itself doesn't allocate. */
 #include "helpers.h"
 
 enum { ROOM = 8192, UNSET = 77, RAN_OUT = 3 };
@@ -35,6 +35,10 @@ int main(int given, char **arguments) {
     needed = UNSET;
     code = kumquatsieve_list_images(out, ROOM, &needed, NULL);
     count += ran_out(code, needed, arguments[4]);
+    kumquatsieve_error error;
+    code = kumquatsieve_find_image("no-such-name", NULL, 0, NULL, &error);
+    CHECK(code == KUMQUATSIEVE_FILE || code == KUMQUATSIEVE_MEMORY);
+    count += code == KUMQUATSIEVE_MEMORY;
     CHECK(count <= 1);
     return count > 0 ? RAN_OUT : 0;
 }

@@ -79,5 +79,5 @@ def check_errors(programs: list[Path]) -> None:
     for name, argument in zip(programs, ("x", "x", "/dev/null", "")):
         command: list[Union[str, Path]] = [name, "no-such-name", *([argument] if argument else [])]
         done = subprocess.run(command, stdin=subprocess.DEVNULL, capture_output=True)
-        if done.returncode != 1 or b"no-such-name: no such file" not in done.stderr:
+        if done.returncode != 1 or b"no-such-name: no such image; " not in done.stderr:
             sys.exit(f"library: {name}: status {done.returncode}: {done.stderr.decode()}")

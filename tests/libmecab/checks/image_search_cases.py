@@ -3,29 +3,24 @@ from libmecab.checks.settings_case import Case
 
 B = {"MECABRC": "HERE/rc"}
 DATA, RELATIVE = {"XDG_DATA_HOME": "HERE/data"}, {"XDG_DATA_HOME": "data"}
-SEARCHED, HINT = "searched OWN/, MADE/, SHARED/", "compile an image with kumquatsieve-import"
+# The start of the library's message, which tests/capi compares.
+SEARCHED = "no such image; searched OWN/, MADE/,"
 CASES = [
     Case(
         "an image by its name", ["-d", "own"], installed=("SHARED/own.img",), image="SHARED/own.img"
     ),
-    Case("a name of no image", ["-d", "own"], error="own: cannot be opened"),
-    Case(
-        "the directories that were searched",
-        ["-d", "own"],
-        installed=("MADE/b.img", "SHARED/b.img", "OWN/a.img"),
-        error=f"own: cannot be opened: {SEARCHED}; available images: a, b; {HINT}\n",
-    ),
+    Case("a name of no image", ["-d", "own"], error=f"own: {SEARCHED}"),
     Case(
         "a user dictionary of a name that no image has",
         ["-d", "HERE/a.img", "-u", "own"],
-        error=f"own: cannot be opened: {SEARCHED}; available images: none; {HINT}\n",
+        error=f"own: {SEARCHED}",
     ),
     Case(
         "a pipe is no image",
         ["-d", "own"],
         installed=("SHARED/x.img",),
         pipes=("MADE/own.img", "OWN/y.img"),
-        error=f"own: cannot be opened: {SEARCHED}; available images: x; {HINT}\n",
+        error=f"own: {SEARCHED}",
     ),
     Case(
         "an image after a pipe of its name",
@@ -62,7 +57,7 @@ CASES = [
         {},
         DATA,
         installed=("OWN/x.img",),
-        error="x: cannot be opened",
+        error="x: no such image; ",
     ),
     Case(
         "an image that was compiled on the machine",
