@@ -9,9 +9,8 @@ docs/PYTHON.md describes each class and call.
 """
 import sys
 
-if not getattr(sys, "_is_gil_enabled", lambda: True)():
-    needs = "this Python runs threads without its lock (GIL), which kumquatsieve needs"
-    raise ImportError(f"{needs}; PYTHON_GIL=1 turns it on")
+if "t" in sys.abiflags:
+    raise ImportError("kumquatsieve needs a Python with a lock (GIL): this one is free-threaded")
 
 from ._core import Node, Word  # noqa: E402 (after the test for what it needs)
 from ._errors import KumquatsieveError  # noqa: E402

@@ -3,10 +3,11 @@ import os
 
 # The codes of an allocation that failed, of a file, and of a text that is not UTF-8.
 MEMORY, FILE, NOT_UTF8 = 1, 0x4601, 0x4703
-# What to do, where the library's explanation names calls in C.
+# What to do, if the library's explanation names C calls.
 ADVICE = {
     "K1": "words, wakati, parse and lines take several lines",
     "G3": 'errors="replace" segments it as U+FFFD',
+    "G4": "words, wakati, parse and lines take a line of any length",
 }
 
 

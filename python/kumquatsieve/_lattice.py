@@ -79,7 +79,7 @@ class Lattice:
         label = self.text.translate(ESCAPES)
         dot = f'digraph {{\n  rankdir=LR;\n  label="{label}";\n  node [shape=circle];\n'
         for number, node in enumerate(self.nodes):
-            if self._is_near(node, within):
+            if within is None or node.lost is not None and node.lost <= within:
                 red = ", color=red, penwidth=2" if node.best else ""
                 lost = "no path" if node.lost is None else f"lost {node.lost}"
                 texts = (text.translate(ESCAPES) for text in (node.surface, node.fields[0]))
@@ -95,8 +95,8 @@ class Lattice:
         def text(x, y, label):
             return f"<text x='{x:g}' y='{y:g}'>{escape(str(label).translate(CODES))}</text>"
 
-        near = (n for n in self.nodes if n.lost is not None and self._is_near(n, within))
-        near = sorted(near, key=lambda node: node.lost)[:most]
+        near = sorted((n for n in self.nodes if n.lost is not None), key=lambda n: n.lost)[:most]
+        near = [node for node in near if within is None or node.lost <= within]
         nodes = [node for node in self.nodes if node.best or node in near]
         rows, ends = {}, [0]
         for node in nodes:
@@ -111,7 +111,7 @@ class Lattice:
             up, down = (TOP + ROW * rows[node] + HEIGHT // 2 for node in (one, other))
             best = " class='best'" if one.best and other.best else ""
             svg.append(f"<line{best} x1='{left}' y1='{up}' x2='{right}' y2='{down}'/>")
-            svg.append(text((left + right) / 2, (up + down) / 2 - 3, cost))
+            svg.append(text((left + right) / 2, (2 * up + down) / 3 - 3, cost))
         for node in nodes:
             left, right, top = COLUMN * node.start, COLUMN * node.end, TOP + ROW * rows[node]
             best, lost = (" class='best'", []) if node.best else ("", [f"+{node.lost}"])
@@ -130,9 +130,6 @@ class Lattice:
 
     def __repr__(self):
         return shown(table_of(self.nodes, HEAD), 4)
-
-    def _is_near(self, node, within):
-        return within is None or node.lost is not None and node.lost <= within
 
     def _connection_costs(self, pairs):
         """Returns the connection costs of nodes: those in the file of the image, if it is still the

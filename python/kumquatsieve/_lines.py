@@ -1,6 +1,5 @@
 """The lines of texts, of files and of iterables, and their results."""
 import io
-from itertools import chain
 
 from ._core import plain
 from ._errors import NOT_UTF8, KumquatsieveError, error_of
@@ -38,7 +37,7 @@ class Lines:
                 yield from segmenter._print_lines(text, is_wakati)
             return
         if not hasattr(source, "__iter__"):
-            source = chain.from_iterable(map(file_of, pieces(source)))
+            source = (line for piece in pieces(source) for line in file_of(piece))
         call = segmenter.words if is_wakati is None else segmenter.parse
         for text in self._texts(source, 1):
             yield " ".join(segmenter.wakati(text)) if is_wakati else call(text)
@@ -78,7 +77,7 @@ class Lines:
 
 
 def pieces(file):
-    """Yields the lines of a file, about a megabyte at a time. What a read returns is looked at
+    """Yields the lines of a file, about a megabyte at a time. Each result of a read is searched
     once, so a file may be read by the byte."""
     held, kind = [], None
     while True:

@@ -121,10 +121,16 @@ def bytes_of(image):
 def advise(error, image):
     """Adds to the error of an open what to do, and the name of the image."""
     name = "" if image is None else os.fsdecode(image)
+    what, is_unknown, _ = error.message.partition("; searched ")
     if os.path.isdir(name):
-        error.advice = f"an image is a file; `kumquatsieve-import {name}` compiles MeCab's folders"
-    elif isinstance(error, FileNotFoundError) and "/" not in name and dictionaries():
-        error.advice = f"installed are: {', '.join(dictionaries())}"
+        error.advice = f"an image is a file; `kumquatsieve-import {name} IMG` compiles sources"
+    elif isinstance(error, FileNotFoundError) and "/" not in what:
+        names = ", ".join(os.path.basename(path)[:-4] for path in _core.images()) or "none"
+        error.advice = f"searched {', '.join(_core.directories())}; available images: {names}"
+        if is_unknown:
+            # The message may have been cut off.
+            error.message = f"{what} (F1 File)"
+            error.advice += "; compile an image with kumquatsieve-import"
     error.filename = name or None
 
 

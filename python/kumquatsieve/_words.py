@@ -1,5 +1,4 @@
 """The fields of words, lists of words, and tables."""
-from itertools import filterfalse
 
 # Names by which the fields of each dictionary can be read, and the names that some dictionaries
 # give these fields.
@@ -24,8 +23,7 @@ def names_of(fields, node):
                 kind = ValueError if isinstance(name, str) else TypeError
                 raise kind(f"fields: {name!r} can't be the name of field {number}")
             numbers[name] = number
-    common = {name: numbers[other] for name, other in COMMON.items() if other in numbers}
-    return {"pos": 0, **common, **numbers}
+    return {"pos": 0, **{a: numbers[b] for a, b in COMMON.items() if b in numbers}, **numbers}
 
 
 class Words(list):
@@ -74,5 +72,5 @@ def width_of(text):
     """Returns how many columns of a terminal a text takes."""
     from unicodedata import combining, east_asian_width
 
-    widths = [*map(east_asian_width, filterfalse(combining, text))]
+    widths = [east_asian_width(character) for character in text if not combining(character)]
     return len(widths) + widths.count("W") + widths.count("F")

@@ -150,7 +150,7 @@ typedef struct call {
     size_t byte;             /* up to which characters were counted */
     Py_ssize_t character;    /* their number */
     size_t longest;          /* bytes of the longest part that was segmented */
-    size_t unchecked;        /* bytes that were segmented since signals were looked for */
+    size_t unchecked;        /* bytes segmented since signals were last checked */
     PyThreadState *released; /* if the lock of Python is released */
 } call;
 
@@ -162,13 +162,17 @@ bool start_call(call *of, PyObject *self, PyObject *text, bool takes_bytes, int 
 void end_call(call *of);
 
 /* Looks for signals if that is due after so many more bytes, so that Ctrl-C ends a call over a long
-   text. Returns false if a handler raised an exception. */
+   text, and lets other threads run. Returns false if a handler raised an exception. */
 bool check_signals(call *of, size_t bytes);
 
 /* segmenting.c. Segments the part of a line that starts at byte `at` of the line, from which its
    offsets count. A line of at most LONGEST_LINE bytes is one part. Uses nothing of Python. */
 uint32_t segment_native(call *of, const line_bounds *bounds, size_t at, kumquatsieve_line *line,
                         kumquatsieve_error *error);
+
+/* Segments a part as segment_native does, without the lock of Python if the part is long. Returns
+   whether it succeeded and no handler of a signal raised an exception. */
+bool segment_part(call *of, const line_bounds *bounds, size_t at, kumquatsieve_line *line);
 
 /* Sets the attribute `total` of a list of words. Returns whether it succeeded. */
 bool set_total(core_state *state, PyObject *list, int64_t total);

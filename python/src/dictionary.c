@@ -77,10 +77,8 @@ static PyObject *texts_of(const char *const *texts, uint32_t count) {
 static bool set_names(dictionary *self, PyObject *given) {
     kumquatsieve_info info;
     kumquatsieve_error error;
-    if (kumquatsieve_dictionary_info(self->native, 0, &info, &error) != KUMQUATSIEVE_OK) {
-        raise_error(self->state, &error, -1);
-        return false;
-    }
+    if (kumquatsieve_dictionary_info(self->native, 0, &info, &error) != KUMQUATSIEVE_OK)
+        return raise_error(self->state, &error, -1) != NULL;
     if (given == Py_None)
         self->field_names = texts_of(info.fields, info.field_count);
     else
@@ -94,25 +92,21 @@ static bool set_names(dictionary *self, PyObject *given) {
     return true;
 }
 
-/* Returns whether an object that was opened before has the same dictionary, by the same names. */
-static int is_same(dictionary *one, PyTypeObject *type, kumquatsieve_dictionary *native,
-                   PyObject *fields, PyObject *origin) {
-    if (one->native != native || Py_TYPE(one) != type || Py_REFCNT(one) == 0) return 0;
-    int same = PyObject_RichCompareBool(one->origin, origin, Py_EQ);
-    if (same <= 0 || fields == Py_None) return same;
-    return PyObject_RichCompareBool(one->field_names, fields, Py_EQ);
-}
-
+/* Returns the object of the same dictionary that was opened by the same names before. To compare
+   names may run Python, which may free any object but the held one. */
 static PyObject *opened_before(core_state *state, PyTypeObject *type,
-                               kumquatsieve_dictionary *native, PyObject *fields,
-                               PyObject *origin) {
-    for (dictionary *one = state->opened; one; one = one->next) {
-        int same = is_same(one, type, native, fields, origin);
-        if (same == 0) continue;
-        if (same > 0) Py_INCREF(one);
-        return same > 0 ? (PyObject *)one : NULL;
+                               kumquatsieve_dictionary *native, PyObject *origin) {
+    PyObject *held = NULL;
+    int same = 0;
+    for (dictionary *one = state->opened; one && same == 0; one = one->next) {
+        if (one->native != native || Py_TYPE(one) != type || Py_REFCNT(one) == 0) continue;
+        Py_INCREF(one);
+        Py_XDECREF(held);
+        held = (PyObject *)one;
+        same = PyObject_RichCompareBool(one->origin, origin, Py_EQ);
     }
-    return NULL;
+    if (same <= 0) Py_CLEAR(held);
+    return held;
 }
 
 static PyObject *new_dictionary(PyTypeObject *type, PyObject *arguments, PyObject *keywords) {
@@ -127,7 +121,7 @@ static PyObject *new_dictionary(PyTypeObject *type, PyObject *arguments, PyObjec
     if (are_bytes) flags = test_digest ? 0 : KUMQUATSIEVE_SKIP_DIGEST;
     kumquatsieve_dictionary *native = open_native(state, tuple, flags, are_bytes);
     if (native == NULL) return NULL;
-    PyObject *before = opened_before(state, type, native, fields, origin);
+    PyObject *before = opened_before(state, type, native, origin);
     allocfunc allocate = (allocfunc)PyType_GetSlot(type, Py_tp_alloc);
     dictionary *self = before || PyErr_Occurred() ? NULL : (dictionary *)allocate(type, 0);
     if (self == NULL) {
@@ -194,8 +188,8 @@ static PyObject *get_images(PyObject *object, void *unused) {
 
 static PyMethodDef methods[] = {
     {"lookup", (PyCFunction)(void (*)(void))look_up, METH_VARARGS | METH_KEYWORDS,
-     "Returns the entries of a surface as words. With `prefixes` they are all words with which a "
-     "line of this text may start."},
+     "lookup($self, /, surface, *, prefixes=False)\n--\n\nReturns the entries of a surface as "
+     "words. With `prefixes` they are all words with which a line of this text may start."},
     {"__copy__", itself, METH_NOARGS, NULL},
     {"__deepcopy__", itself, METH_O, NULL},
     {NULL, NULL, 0, NULL}};

@@ -25,10 +25,8 @@ static entry *new_entry(dictionary *of, kumquatsieve_segmenter *native,
     const char *feature = NULL;
     size_t length = 0;
     kumquatsieve_error error;
-    if (kumquatsieve_feature(native, word, &feature, &length, &error) != KUMQUATSIEVE_OK) {
-        raise_error(of->state, &error, -1);
-        return NULL;
-    }
+    if (kumquatsieve_feature(native, word, &feature, &length, &error) != KUMQUATSIEVE_OK)
+        return (entry *)raise_error(of->state, &error, -1);
     PyObject *text = PyUnicode_DecodeUTF8(feature, (Py_ssize_t)length, "strict");
     if (text == NULL) return NULL;
     entry *made = PyMem_Malloc(sizeof *made);

@@ -71,13 +71,9 @@ static bool segment_one(call *of, int64_t *total) {
     of->utf8.length = bounds.end;
     if (of->utf8.length > LONGEST_LINE) {
         kumquatsieve_segment(&of->native, of->utf8.bytes, of->utf8.length, 0, &line, &error);
-        raise_error(of->state, &error, PyUnicode_GetLength(of->text));
-        return false;
+        return raise_error(of->state, &error, PyUnicode_GetLength(of->text)) != NULL;
     }
-    if (segment_native(of, &bounds, 0, &line, &error) != KUMQUATSIEVE_OK) {
-        raise_error(of->state, &error, -1);
-        return false;
-    }
+    if (!segment_part(of, &bounds, 0, &line)) return false;
     *total = line.total;
     of->longest = LONGEST_LINE;
     return true;
@@ -145,11 +141,9 @@ PyObject *look_up(PyObject *object, PyObject *arguments, PyObject *keywords) {
                                      &has_prefixes))
         return NULL;
     if (!encode(self->state, of.text, false, &of.utf8)) return NULL;
-    PyObject *list = NULL;
-    if (kumquatsieve_segmenter_open(&of.native, self->native, &error) == KUMQUATSIEVE_OK)
-        list = entries_of(&of, has_prefixes ? KUMQUATSIEVE_PREFIXES : 0);
-    else
-        raise_error(self->state, &error, -1);
+    PyObject *list = kumquatsieve_segmenter_open(&of.native, self->native, &error)
+                         ? raise_error(self->state, &error, -1)
+                         : entries_of(&of, has_prefixes ? KUMQUATSIEVE_PREFIXES : 0);
     kumquatsieve_segmenter_close(&of.native);
     Py_XDECREF(of.utf8.owner);
     return list;

@@ -14,9 +14,12 @@ core_state *state_of(PyTypeObject *type) {
 }
 
 PyObject *raise_error(core_state *state, const kumquatsieve_error *error, Py_ssize_t position) {
-    PyObject *exception = PyObject_CallFunction(state->error_of, "IKnns", (unsigned)error->code,
+    /* A message has names of files, which may have any bytes. */
+    PyObject *message =
+        PyUnicode_DecodeUTF8(error->message, (Py_ssize_t)strlen(error->message), "replace");
+    PyObject *exception = PyObject_CallFunction(state->error_of, "IKnnN", (unsigned)error->code,
                                                 (unsigned long long)error->number, position,
-                                                (Py_ssize_t)error->image, error->message);
+                                                (Py_ssize_t)error->image, message);
     if (exception == NULL) return NULL;
     PyErr_SetObject((PyObject *)Py_TYPE(exception), exception);
     Py_DECREF(exception);

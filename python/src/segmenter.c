@@ -4,8 +4,9 @@
 #include <structmember.h>
 
 /* A native segmenter that had a line of more bytes is closed, since it keeps the memory of its
-   longest line. */
-enum { LONGEST_KEPT = 65536, BYTES_BETWEEN_SIGNALS = 1 << 18 };
+   longest line. A call that keeps the lock of Python lets other threads run after so many bytes,
+   which take about ten milliseconds. */
+enum { LONGEST_KEPT = 65536, BYTES_BETWEEN_SIGNALS = 1 << 18, BYTES_BETWEEN_TURNS = 1 << 13 };
 
 /* Returns a text of the format, which has its UTF-8, or NULL for the default. */
 static const char *format_text(PyObject *format, Py_ssize_t number) {
@@ -33,8 +34,7 @@ static bool open_native(segmenter *self, int format, kumquatsieve_segmenter *nat
                                 &error) == KUMQUATSIEVE_OK)
         return true;
     kumquatsieve_segmenter_close(native);
-    raise_error(self->state, &error, position_in(self->format, &error));
-    return false;
+    return raise_error(self->state, &error, position_in(self->format, &error)) != NULL;
 }
 
 /* Takes an idle native segmenter of a format, or opens one. */
@@ -82,9 +82,9 @@ void end_call(call *of) {
 
 bool check_signals(call *of, size_t bytes) {
     of->unchecked += bytes;
-    if (of->unchecked < BYTES_BETWEEN_SIGNALS) return true;
+    if (of->unchecked < (of->released ? BYTES_BETWEEN_SIGNALS : BYTES_BETWEEN_TURNS)) return true;
     of->unchecked = 0;
-    if (of->released) PyEval_RestoreThread(of->released);
+    PyEval_RestoreThread(of->released ? of->released : PyEval_SaveThread());
     int code = PyErr_CheckSignals();
     if (of->released) of->released = PyEval_SaveThread();
     return code == 0;
@@ -135,7 +135,8 @@ static PyObject *new_segmenter(PyTypeObject *type, PyObject *arguments, PyObject
     return (PyObject *)self;
 }
 
-/* Frees the idle native segmenters. Those of calls that run are freed when these end. */
+/* Frees the idle native segmenters. A native segmenter that a call uses is freed when the call
+   ends. */
 static PyObject *close_segmenter(PyObject *object, PyObject *unused) {
     segmenter *self = (segmenter *)object;
     (void)unused;
@@ -146,11 +147,25 @@ static PyObject *close_segmenter(PyObject *object, PyObject *unused) {
     Py_RETURN_NONE;
 }
 
+/* Its dictionary and its format may have attributes of the caller, and so be in a cycle. */
+static int visit(PyObject *object, visitproc visit, void *arg) {
+    Py_VISIT(Py_TYPE(object));
+    Py_VISIT(((segmenter *)object)->dictionary);
+    Py_VISIT(((segmenter *)object)->format);
+    return 0;
+}
+
+static int clear(PyObject *object) {
+    Py_XDECREF(close_segmenter(object, NULL));
+    Py_CLEAR(((segmenter *)object)->format);
+    return 0;
+}
+
 static void free_segmenter(PyObject *object) {
     PyTypeObject *type = Py_TYPE(object);
     PyObject *module = ((segmenter *)object)->state->module;
-    Py_XDECREF(close_segmenter(object, NULL));
-    Py_XDECREF(((segmenter *)object)->format);
+    PyObject_GC_UnTrack(object);
+    clear(object);
     ((freefunc)PyType_GetSlot(type, Py_tp_free))(object);
     Py_DECREF(type);
     Py_DECREF(module);
@@ -195,26 +210,26 @@ static PyMemberDef members[] = {
     {NULL, 0, 0, 0, NULL}};
 
 static PyMethodDef methods[] = {
-    {"words", words_in, METH_O, "Returns the words of a text."},
-    {"wakati", wakati, METH_O, "Returns the surfaces of the words of a text."},
-    {"parse", parse, METH_O, "Returns the output of each line of a text, joined."},
+    {"words", words_in, METH_O, "words($self, text, /)\n--\n\nReturns the words of a text."},
+    {"wakati", wakati, METH_O, "wakati($self, text, /)\n--\n\nReturns the surfaces of a text."},
+    {"parse", parse, METH_O,
+     "parse($self, text, /)\n--\n\nReturns the output of each line of a text, joined."},
     {"close", close_segmenter, METH_NOARGS,
+     "close($self, /)\n--\n\n"
      "Frees its memory. Calls that run end as usual, and later calls raise ValueError."},
     {"_print_lines", print_lines, METH_VARARGS, NULL},
     {"lattice", lattice, METH_O,
-     "Returns the lattice of a line, which shows why it was segmented so."},
-    {"share", share, METH_NOARGS, "Returns another segmenter over the same dictionary."},
+     "lattice($self, line, /)\n--\n\nReturns the lattice of a line: the words it may have."},
+    {"share", share, METH_NOARGS,
+     "share($self, /)\n--\n\nReturns another segmenter over the same dictionary."},
     {"__enter__", itself, METH_NOARGS, NULL},
     {"__exit__", close_segmenter, METH_VARARGS, NULL},
     {NULL, NULL, 0, NULL}};
 
-static PyType_Slot slots[] = {{Py_tp_new, new_segmenter},
-                              {Py_tp_dealloc, free_segmenter},
-                              {Py_tp_call, call_segmenter},
-                              {Py_tp_methods, methods},
-                              {Py_tp_getset, getters},
-                              {Py_tp_members, members},
-                              {0, NULL}};
+static PyType_Slot slots[] = {
+    {Py_tp_new, new_segmenter}, {Py_tp_dealloc, free_segmenter}, {Py_tp_traverse, visit},
+    {Py_tp_clear, clear},       {Py_tp_call, call_segmenter},    {Py_tp_methods, methods},
+    {Py_tp_getset, getters},    {Py_tp_members, members},        {0, NULL}};
 
 PyType_Spec segmenter_spec = {"kumquatsieve._core.Segmenter", sizeof(segmenter), 0,
-                              Py_TPFLAGS_DEFAULT | Py_TPFLAGS_BASETYPE, slots};
+                              Py_TPFLAGS_DEFAULT | Py_TPFLAGS_BASETYPE | Py_TPFLAGS_HAVE_GC, slots};

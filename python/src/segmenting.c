@@ -12,17 +12,13 @@ uint32_t segment_native(call *of, const line_bounds *bounds, size_t at, kumquats
     return code;
 }
 
-/* Segments the part of a line that starts at byte `at` of it. Returns whether it succeeded. */
-static bool segment_part(call *of, const line_bounds *bounds, size_t at, kumquatsieve_line *line) {
+bool segment_part(call *of, const line_bounds *bounds, size_t at, kumquatsieve_line *line) {
     kumquatsieve_error error;
     bool is_long = bounds->end - bounds->start - at >= LONG_TEXT;
     PyThreadState *saved = is_long ? PyEval_SaveThread() : NULL;
     uint32_t code = segment_native(of, bounds, at, line, &error);
     if (saved) PyEval_RestoreThread(saved);
-    if (code != KUMQUATSIEVE_OK) {
-        raise_error(of->state, &error, -1);
-        return false;
-    }
+    if (code != KUMQUATSIEVE_OK) return raise_error(of->state, &error, -1) != NULL;
     if (line->end - at > of->longest) of->longest = line->end - at;
     return check_signals(of, line->end - at);
 }
@@ -115,6 +111,6 @@ PyObject *words_in(PyObject *self, PyObject *text) {
 PyObject *call_segmenter(PyObject *self, PyObject *arguments, PyObject *keywords) {
     static char *names[] = {"", NULL}; /* the text has no name */
     PyObject *text;
-    bool is_text = PyArg_ParseTupleAndKeywords(arguments, keywords, "O", names, &text);
+    bool is_text = PyArg_ParseTupleAndKeywords(arguments, keywords, "O:Segmenter", names, &text);
     return is_text ? words_in(self, text) : NULL;
 }

@@ -26,13 +26,13 @@ static void replace_surrogates(unsigned char *bytes, size_t length) {
     }
 }
 
-/* Raises the error of the first surrogate of a text. */
-static void raise_surrogate(core_state *state, PyObject *text) {
+/* Raises the error of the first surrogate of a text, and returns false. */
+static bool raise_surrogate(core_state *state, PyObject *text) {
     kumquatsieve_error error = {.code = KUMQUATSIEVE_NOT_UTF8};
     Py_ssize_t at = 0;
-    strcpy(error.message, "the text has a surrogate, which is no character");
+    strcpy(error.message, "the text has half of a surrogate pair");
     while ((PyUnicode_ReadChar(text, at) & 0x1ff800) != 0xd800) at++;
-    raise_error(state, &error, at);
+    return raise_error(state, &error, at) != NULL;
 }
 
 /* Uses bytes, which it takes over. */
@@ -45,10 +45,7 @@ static void use_bytes(PyObject *owner, utf8 *to) {
 static bool encode_surrogates(core_state *state, PyObject *text, bool is_strict, utf8 *to) {
     if (!PyErr_ExceptionMatches(PyExc_UnicodeEncodeError)) return false;
     PyErr_Clear();
-    if (is_strict) {
-        raise_surrogate(state, text);
-        return false;
-    }
+    if (is_strict) return raise_surrogate(state, text);
     PyObject *owner = PyUnicode_AsEncodedString(text, "utf-8", "surrogatepass");
     if (owner == NULL) return false;
     use_bytes(owner, to);

@@ -9,6 +9,8 @@ import sys
 import threading
 import time
 import weakref
+from importlib.util import find_spec
+from typing import List
 
 import pytest
 
@@ -81,6 +83,41 @@ def test_calls_that_run_end_as_usual_after_a_close(system, call):
     assert done == [LONG, LONG]
     with pytest.raises(ValueError, match="closed"):
         list(call(segmenter, LINE))
+
+
+MANY_LINES, ONE_LINE = (LINE + "\n") * 400_000, LINE * 60_000
+
+
+def turns_during(call):
+    """Returns how often another thread, which wants to run all the time, runs during a call."""
+    turns, over = [], threading.Event()
+
+    def take_turns():
+        while not over.wait(0.001):
+            turns.append(None)
+
+    thread = started(take_turns)
+    before = len(turns)
+    call()
+    during = len(turns) - before
+    over.set()
+    thread.join(WAIT)
+    return during
+
+
+@pytest.mark.parametrize(
+    "name, text",
+    [("words", MANY_LINES), ("wakati", MANY_LINES), ("parse", MANY_LINES), ("lattice", ONE_LINE)],
+)
+def test_other_threads_run_during_a_call_over_a_long_text(system, name, text):
+    """Also if each line is too short to release the lock of Python for it.
+
+    A thread may run just before and just after a call that never releases the lock, but not more
+    often. On a busy machine it may not run in time, so the call is repeated.
+    """
+    segmenter, deadline = Segmenter(system), time.monotonic() + WAIT
+    while turns_during(lambda: getattr(segmenter, name)(text)) <= 2:
+        assert time.monotonic() < deadline
 
 
 def test_two_threads_close_at_once(system):
@@ -187,6 +224,24 @@ def test_a_cycle_is_collected(system):
     assert gone() is None and words[0].fields == ("名詞", "すもも")
 
 
+class LinkedDictionary(Dictionary):
+    """One whose objects may be in a cycle, through a segmenter that has one."""
+
+
+class LinkedFormat(Format):
+    """A format that may be in a cycle too."""
+
+
+def test_a_cycle_through_what_a_segmenter_has_is_collected(system):
+    plain, own, format = Dictionary(system), LinkedDictionary(system), LinkedFormat("%m")
+    plain.segmenter, own.segmenter = Segmenter(plain), Segmenter(own)
+    format.segmenter = Segmenter(system, format=format)
+    gone = [weakref.ref(one.segmenter) for one in (plain, own, format)]
+    del plain, own, format
+    gc.collect()
+    assert [one() for one in gone] == [None] * 3
+
+
 def test_objects_share_a_dictionary(system, user):
     """The same images by the same names are one object, as long as somebody has it."""
     one = Segmenter(system, [user])
@@ -194,6 +249,24 @@ def test_objects_share_a_dictionary(system, user):
     assert Segmenter(system).dictionary is not one.dictionary
     assert Dictionary(system, [user], fields=["kind"]) is not one.dictionary
     assert Dictionary(system, [user]) is copy.deepcopy(one.dictionary) is one.dictionary
+
+
+class Freeing(str):
+    """A text whose comparison frees dictionaries, as another thread may do meanwhile."""
+
+    held: List[Dictionary] = []
+    __hash__ = str.__hash__
+
+    def __eq__(self, other):
+        self.held.clear()
+        return False
+
+
+def test_a_comparison_of_names_may_free_dictionaries(system):
+    """Names are compared with those of the dictionaries that were opened before."""
+    for _ in range(50):
+        Freeing.held += [Dictionary(system, fields=[Freeing("pos")]) for _ in range(9)]
+        assert len(Dictionary(system, fields=[Freeing("pos")]).field_names) == 1
 
 
 def test_words_outlive_everything(system):
@@ -341,7 +414,18 @@ def test_a_program_ends_well(system, how):
     assert (done.returncode, done.stdout, done.stderr) == (0, printed, "")
 
 
-# What each of many interpreters runs, and the program that starts them.
+# What each of many interpreters runs, and the programs that start them. An interpreter has a lock
+# (GIL) of its own, or shares that of the first one, which all do before Python 3.12.
+CREATE = """
+try:
+    import _interpreters as interpreters
+except ImportError:
+    import _xxsubinterpreters as interpreters
+def create(is_own):
+    if interpreters.__name__ == "_interpreters":
+        return interpreters.create("isolated" if is_own else "legacy")
+    return interpreters.create(isolated=is_own)
+"""
 IN_EACH = """
 from kumquatsieve import Segmenter, Word
 segmenter = Segmenter(image)
@@ -353,12 +437,11 @@ for _ in range(1000):
 INTERPRETERS = """
 import sys
 import threading
-import _xxsubinterpreters as interpreters
 code = f"image = {sys.argv[1]!r}; import sys; sys.path[:] = {sys.path!r}" + sys.argv[2]
 def run():
     for _ in range(5):
-        number = interpreters.create()
-        interpreters.run_string(number, code)
+        number = create(False)
+        assert interpreters.run_string(number, code) is None
         interpreters.destroy(number)
 exec(code)
 threads = [threading.Thread(target=run) for _ in range(3)]
@@ -367,13 +450,34 @@ for thread in threads: thread.join()
 exec(code)
 print("done")
 """
+OWN_LOCK = """
+import sys
+number = create(True)
+interpreters.run_string(number, f"import sys; sys.path[:] = {sys.path!r}" + '''
+try:
+    import kumquatsieve
+except ImportError as error:
+    print(error, flush=True)
+''')
+"""
+
+
+def run_interpreters(code, *words):
+    if not any(map(find_spec, ("_interpreters", "_xxsubinterpreters"))):
+        pytest.skip("this Python starts no other interpreters")
+    words = [sys.executable, "-W", "ignore", "-c", CREATE + code, *words]
+    done = subprocess.run(words, capture_output=True, text=True)
+    assert (done.returncode, done.stderr) == (0, "")
+    return done.stdout
 
 
 def test_each_interpreter_has_a_module_of_its_own(system):
-    pytest.importorskip("_xxsubinterpreters")
-    words = [sys.executable, "-c", INTERPRETERS, system, IN_EACH]
-    done = subprocess.run(words, capture_output=True, text=True)
-    assert (done.returncode, done.stdout, done.stderr) == (0, "done\n", "")
+    assert run_interpreters(INTERPRETERS, system, IN_EACH) == "done\n"
+
+
+@pytest.mark.skipif(sys.version_info < (3, 12), reason="interpreters share a lock before 3.12")
+def test_an_interpreter_with_a_lock_of_its_own_is_rejected():
+    assert "does not support loading in subinterpreters" in run_interpreters(OWN_LOCK)
 
 
 # What runs under valgrind: each call, over texts of each kind, errors, pickles, and a close while

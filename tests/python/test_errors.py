@@ -82,6 +82,7 @@ def test_an_error_in_a_worker_comes_to_whoever_waits(system, start):
         with pytest.raises(KumquatsieveError) as error:
             pool.apply_async(rejected, (system,)).get(WAIT)
     assert (error.value.code, error.value.position) == ("G3", 1)
+    assert str(error.value).startswith("the text has half of a surrogate pair at character 1; ")
 
 
 # What is given as an image, made in a folder, and what the error says.
@@ -91,7 +92,7 @@ GIVEN = [
     (
         "a folder of MeCab's",
         lambda path: (path.mkdir(), (path / "sys.dic").touch()),
-        "kumquatsieve-import .*image.img. compiles",
+        "kumquatsieve-import .*image.img IMG. compiles",
     ),
 ]
 
@@ -109,7 +110,7 @@ def test_what_is_no_image_is_named_with_what_to_do(tmp_path, what, make, said):
 
 
 @pytest.mark.parametrize(
-    "text, code, position", [("も\\q", "P1", 1), ("もも%q", "P2", 2), ("も%f[x]", "P3", 1)]
+    "text, code, position", [("も\\q", "P1", 1), ("もも%F", "P2", 2), ("も%f[0,1]", "P3", 1)]
 )
 def test_a_format_that_is_invalid(system, text, code, position):
     """The error names the text. Its position counts characters."""

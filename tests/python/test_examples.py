@@ -56,8 +56,8 @@ ROWS = [
 ]
 # The modules that a program needs.
 NEEDED = {"column": "pandas", "bag": "dask.bag", "vectorize": "sklearn"}
-# What the program for spaCy takes of it, which stands in where spaCy is not installed: the files of
-# the package, by their names. A Doc has a text for each word, and whether a blank follows it.
+# A stand-in for spaCy, used if it is not installed: the files of the package, by their names. A Doc
+# has a text for each word, and whether a blank follows it.
 SPACY = {
     "__init__.py": """
 class Language:

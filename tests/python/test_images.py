@@ -216,19 +216,40 @@ def test_no_other_name_is_looked_up(system, installed, name):
         Segmenter(name)
 
 
+def searched(names):
+    """Returns what an error lists: the directories, and the names of all images there."""
+    return f"searched {', '.join(_core.directories())}; available images: {names}"
+
+
+def unknown(names):
+    """Returns the error of the name `ipadic`."""
+    hint = "compile an image with kumquatsieve-import"
+    return f"ipadic: no such image (F1 File); {searched(names)}; {hint}"
+
+
 def test_a_name_that_is_not_installed_lists_those_that_are(system, user, installed):
-    with pytest.raises(FileNotFoundError, match="no such file.*kumquatsieve-import"):
+    with pytest.raises(FileNotFoundError) as error:
         Segmenter("ipadic")
+    assert str(error.value) == unknown("none")
     for name in ("unidic", "sample"):
         shutil.copy(system, installed / f"{name}.img")
     shutil.copy(user, installed / "words.img")
     (installed / "broken.img").write_bytes(b"MJDICT")
     (installed / "folder.img").mkdir()
-    with pytest.raises(FileNotFoundError, match="ipadic: .*installed are: sample, unidic$"):
-        Segmenter("ipadic")
+    for images in (["ipadic"], ["sample", ["ipadic"]]):
+        with pytest.raises(FileNotFoundError) as error:
+            Segmenter(*images)
+        assert str(error.value) == unknown("broken, sample, unidic, words")
     assert kumquatsieve.dictionaries() == {
         name: str(installed / f"{name}.img") for name in ("sample", "unidic")
     }
+
+
+def test_names_may_have_any_bytes(installed):
+    (installed / "\udcff.img").touch()
+    for name in ("ipadic", "\udcfe", "./\udcfe"):
+        with pytest.raises(FileNotFoundError, match="F1 File"):
+            Segmenter(name)
 
 
 class TooLong(BaseException):
@@ -258,7 +279,7 @@ def test_only_regular_files_are_images_that_are_installed(system, installed, not
     assert kumquatsieve.dictionaries() == {"sample": str(installed / "sample.img")}
     assert Segmenter().wakati(LINE) == WORDS
     for name in ("pipe", "zero"):
-        with pytest.raises(FileNotFoundError, match=f"{name}: .*installed are: sample$"):
+        with pytest.raises(FileNotFoundError, match=f"{name}: .*available images: sample;"):
             Segmenter(name)
 
 
@@ -269,7 +290,9 @@ def test_without_a_name_the_only_one_is_taken(system, user, installed):
     shutil.copy(user, installed / "words.img")
     assert Segmenter(users=["words"]).wakati(LINE) == [LINE]
     shutil.copy(system, installed / "unidic.img")
-    with pytest.raises(FileNotFoundError, match="installed are: sample, unidic"):
+    with pytest.raises(
+        FileNotFoundError, match="several .*available images: sample, unidic, words$"
+    ):
         Segmenter()
 
 

@@ -521,6 +521,13 @@ def test_what_is_drawn(system):
     assert Segmenter(system).lattice(LINE)._repr_svg_() == Segmenter(system).lattice(LINE).to_svg()
 
 
+def test_texts_of_a_drawing_have_places_of_their_own(system):
+    """Also the costs of connections whose lines cross."""
+    drawn = ElementTree.fromstring(Segmenter(system).lattice("ももももももももももすもも").to_svg())
+    places = [(text.get("x"), text.get("y")) for text in drawn.iter(f"{SVG}text")]
+    assert len(places) == len({*places}) > 40
+
+
 def test_connection_costs_of_a_drawing_are_those_of_the_image(system, tmp_path):
     """Without the file of the image, those of the best path are drawn alone."""
     image = shutil.copy(system, tmp_path / "image.img")
@@ -564,7 +571,7 @@ def test_a_lattice_is_of_one_line(system, call):
     assert repr(run(LINE + "\r\n")) == repr(run(LINE + "\n")) == repr(run(LINE))
     with pytest.raises(ValueError, match="several lines at character 3"):
         run("すもも\nもも")
-    with pytest.raises(KumquatsieveError) as error:
+    with pytest.raises(KumquatsieveError, match="; words, .* take a line of any length$") as error:
         run("z" * (2**20 + 1))
     assert (error.value.code, error.value.position) == ("G4", 2**20 + 1)
 

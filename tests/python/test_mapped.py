@@ -81,7 +81,7 @@ def test_processes_share_the_memory_of_an_image(system, large):
     assert os.path.getsize(large) > 5_000_000 and max(grown) < os.path.getsize(large) // 2
 
 
-# A process that opens an image with different users' images, and reports by how much its private
+# A process that opens an image with different user images, and reports by how much its private
 # memory has grown.
 OPENS_MANY = (
     OPENS[: OPENS.index("first, image")]

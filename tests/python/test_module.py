@@ -1,5 +1,6 @@
 """The module itself: its version, its exports, and the search for the library."""
 import importlib.metadata
+import inspect
 import os
 import re
 import shutil
@@ -30,6 +31,14 @@ def test_what_is_installed_has_the_same_version():
 def test_each_name_that_is_exported_is_there_and_says_what_it_is():
     for name in kumquatsieve.__all__:
         assert getattr(kumquatsieve, name).__doc__
+
+
+def test_each_call_has_a_signature_and_says_what_it_does():
+    """Editors and `help` show them. mypy compares them with the stubs."""
+    for kind in (kumquatsieve.Dictionary, kumquatsieve.Lattice, kumquatsieve.Segmenter):
+        calls = [call for name, call in inspect.getmembers(kind, callable) if name[0] != "_"]
+        assert calls and all(inspect.signature(call) and call.__doc__ for call in calls)
+    assert str(inspect.signature(kumquatsieve.Segmenter.words)) == "(self, text, /)"
 
 
 # Modules that take longer to import than a checked image takes to load.
@@ -85,11 +94,12 @@ def test_the_extension_exports_its_entry_point_alone():
 
 
 @pytest.mark.parametrize(
-    "has_lock, message",
-    [("True", ""), ("False", "ImportError: this Python runs threads without its lock (GIL)")],
+    "flags, message",
+    [("", ""), ("d", ""), ("t", "this one is free-threaded"), ("td", "this one is free-threaded")],
 )
-def test_a_python_without_its_lock_is_rejected(has_lock, message):
-    code = f"import sys; sys._is_gil_enabled = lambda: {has_lock}; import kumquatsieve"
+def test_a_free_threaded_python_is_rejected(flags, message):
+    """Whether its lock is on or not, because it does not load modules of the stable ABI."""
+    code = f"import sys; sys.abiflags = {flags!r}; import kumquatsieve"
     done = subprocess.run([sys.executable, "-c", code], capture_output=True, text=True)
     assert (done.returncode, message in done.stderr) == (1 if message else 0, True)
 

@@ -137,7 +137,7 @@ def test_a_timer_that_raises_in_short_calls_leaves_nothing_behind(first):
 
 
 def test_a_timer_ends_a_call_over_a_long_text(first):
-    """Signals are looked for between the lines. The segmenter is as before."""
+    """Signals are checked between the lines. The segmenter is as before."""
     text = "すもももも\n" * 1_000_000
 
     def stop(*_):
