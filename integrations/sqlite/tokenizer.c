@@ -102,7 +102,7 @@ static int create_tokenizer(void *held, const char **arguments, int count, Fts5T
     return code;
 }
 
-/* Whether a feature starts with a stop of a list, in which `-` also stands for a comma. */
+/* Returns whether a feature starts with a stop of a list, in which `-` also stands for a comma. */
 static bool is_stopped(const char *stops, const char *feature, size_t feature_length) {
     for (size_t at, length; *stops; stops += length + (stops[length] == ',')) {
         length = strcspn(stops, ",");

@@ -94,10 +94,11 @@ def indexes_of_databases(server: Server, images: Images) -> Iterator[str]:
     server.sql("DROP TABLE indexed; ALTER DATABASE test RESET ALL")
 
 
-def placeholders(server: Server, _: Images) -> Iterator[str]:
+def placeholders(server: Server, images: Images) -> Iterator[str]:
     """A setting that was made before the library was loaded is reported when it is used."""
     error = server.error(f"SET kumquatsieve.dictionary = 'no_such_image'; {QUERY}")
-    yield from expect("before the library", error, "could not open", "no_such_image", "HINT:")
+    detail = f"DETAIL:  no_such_image: no such image; searched {images.ipadic.parent}, "
+    yield from expect("before the library", error, "could not open", detail, "HINT:")
     found = server.psql(
         f"CREATE ROLE reader; SET ROLE reader; SET kumquatsieve.dictionary = 'x'; {QUERY}"
     )

@@ -23,7 +23,7 @@ QUERIES = {
     "vectors": "SELECT to_tsvector('japanese', line)",
     "queries": "SELECT plainto_tsquery('japanese', left(line, 40))",
 }
-# The regression tests in which no word is looked up and nothing is said of images.
+# The regression tests in which no word is looked up and no output names an image.
 WITHOUT_LOOKUPS = ("parser", "configuration")
 # The text of all tokens of a headline is the line, byte for byte.
 HEADLINES = """SELECT count(*) FROM lines WHERE {} AND line <> ts_headline(

@@ -54,7 +54,7 @@ def memory_that_runs_out(server: Server, _: Images) -> Iterator[str]:
 
 
 def memory_of_dropped_words(server: Server, _: Images) -> Iterator[str]:
-    """Words that are dropped take no memory, beside what to_tsvector takes for a text."""
+    """Dropped words use no memory besides what to_tsvector allocates for a text."""
     line, count = "するするする\\n", 200_000
     peaks = []
     for times in (1, count):

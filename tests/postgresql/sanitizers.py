@@ -21,7 +21,7 @@ LINES = """\
 SELECT count(*) FROM lines WHERE number % 10 = 0 AND to_tsvector('japanese', line) IS NOT NULL
 SELECT count(*) FROM lines WHERE number % 10 = 0 AND line <> ts_headline('japanese', line, 'x')
 """
-# Statements over the images IPADIC, SAMPLE and USER. Those that start with `!` have to fail.
+# Statements over the images IPADIC, SAMPLE and USER. Statements that start with `!` have to fail.
 STATEMENTS = """\
 LOAD 'kumquatsieve'
 !SET kumquatsieve.dictionary = 'no_such_image'

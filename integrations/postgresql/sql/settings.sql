@@ -6,10 +6,10 @@ FROM kumquatsieve_dictionary_info();
 
 -- A value is checked when it is set.
 \set VERBOSITY default
-SET kumquatsieve.dictionary = 'no_such_image';
 SET kumquatsieve.dictionary = '/dev/null';
 SET kumquatsieve.user_dictionaries = '"';
 \set VERBOSITY terse
+SET kumquatsieve.dictionary = 'no_such_image';
 SET kumquatsieve.user_dictionaries = 'ipadic';
 ALTER ROLE CURRENT_USER SET kumquatsieve.dictionary = 'no_such_image';
 SET kumquatsieve.no_such_setting = 'x';

@@ -121,8 +121,8 @@ static void go_to_line(parser *of) {
     while (of->next < last_line.count && last_line.words[of->next].start < of->at) of->next++;
 }
 
-/* Whether the default parser splits a word, because all characters up to its end are ASCII, or
-   letters of U+00C0 to U+024F. A word of a user dictionary stays whole. */
+/* Returns whether the default parser splits a word, because all characters up to its end are ASCII,
+   or letters of U+00C0 to U+024F. A word of a user dictionary stays whole. */
 static bool is_foreign(const parser *of, const kumquatsieve_word *word) {
     const unsigned char *at = (const unsigned char *)of->text + of->at;
     for (; at < (const unsigned char *)of->text + word->end; at += pg_utf_mblen(at)) {
