@@ -18,6 +18,8 @@ MISSING = re.compile(r"has no field|is not in scope|has no (?:pub )?`|was not ad
 AT_LIMIT = re.compile(r"ran out of|memory limit|step limit")
 # The head of a declaration in a file of answers.
 HEAD = re.compile(r"^(?:(?:pub|abbrev|unfoldable) )*([^\s:]+) :(?: |$)")
+# An import of places among a function's goals.
+PLACES = re.compile(r"^(use \S+\.Goals\.)\{(.*)\}\n$")
 # What a goal is for: a return, what a call requires, a loop, or else a step.
 KIND = re.compile(r"^returns|^.+?-requires|^loop-.+?-(?:init|preserved|decreases)|^[^-]+")
 
@@ -121,12 +123,23 @@ def declarations(text: str) -> List[Declaration]:
 
 
 def without(text: str, names: Iterable[str]) -> str:
-    """Returns a file of answers without the declarations of these names."""
+    """Returns a file of answers without the declarations of these names.
+
+    A place among the goals that only these cited is not imported either: it exists for them alone.
+    """
     lines = text.splitlines(keepends=True)
     for it in reversed(declarations(text)):
         if it.name in names:
             del lines[it.start - 1 : it.end - 1]
-    return "".join(lines)
+    rest = "".join(line for line in lines if not line.startswith("use "))
+    return "".join(PLACES.sub(lambda found: cited_places(found, rest), line) for line in lines)
+
+
+def cited_places(found: "re.Match[str]", text: str) -> str:
+    """Returns an import of places among the goals, of those alone that the text cites."""
+    cited = {*re.findall(r"[^\s(){}\[\],.]+", text)}
+    places = [place for place in found[2].split(", ") if place in cited]
+    return f"{found[1]}{{{', '.join(places)}}}\n" if places else ""
 
 
 def broken_answers(report: Report, text: str) -> Broken:

@@ -20,6 +20,7 @@ sys.dont_write_bytecode = True
 sys.path[:0] = [str(TOP / "scripts"), str(TOP / "tests")]
 from documents import exists, is_path, leads  # noqa: E402 (after the paths that lead to them)
 from edits import Mutant, Texts, mutant_of  # noqa: E402
+from reports import without  # noqa: E402
 from scripts.recorded_checks import RECORDED  # noqa: E402
 from subjects import complaint  # noqa: E402
 from support.reported_cases import reported_cases  # noqa: E402
@@ -40,6 +41,13 @@ SUBJECTS = (
     ("cells: " + "A" * 65, True),
     ("cells: " + "A" * 66, False),
     ("", False),
+)
+# Answers of which the second one is removed: what is imported for them, and what is left of that.
+PLACES = (
+    ("f.Goals as goal", "f.Goals as goal"),
+    ("f.Goals.{then-a, else-a}", "f.Goals.{then-a}"),
+    ("f.Goals.{else-a, else-a-via-b+c}", ""),
+    ("Lemmas.{more, fewer}", "Lemmas.{more, fewer}"),
 )
 # A word of a document, whether it is a path of this repository, and if so whether that exists.
 PATHS = (
@@ -112,28 +120,27 @@ MARKDOWN = (
     (["```", f"{LONG} end", "```"], ["```", f"{LONG} end", "```"]),
     (["", f"    {LONG} end"], ["", f"    {LONG} end"]),
 )
+# The suffixes of what dpkg runs.
+MAINTAINER = (".postinst", ".prerm", ".postrm")
 # The scripts, each of which has --help and rejects an unknown option.
 SCRIPTS = (
     *(
         str(path.relative_to(TOP))
-        for folder in ("scripts", "bench", "tests")
+        for folder in ("scripts", "bench", "tests", "packaging")
         for path in sorted((TOP / folder).rglob("*"))
-        if path.is_file() and os.access(path, os.X_OK)
+        if path.is_file() and os.access(path, os.X_OK) and path.suffix not in MAINTAINER
     ),
     ".ci/run",
-    *(
-        f"packaging/{path.name}"
-        for path in sorted((TOP / "packaging").iterdir())
-        if not path.suffix and path.is_file()
-    ),
 )
 # The options, and the status of a script that gets one.
 OPTIONS = (("--help", 0), ("--no-such-option", 2))
-# The scripts, with each option. Some reject a file or a command that is not there.
+# The scripts, with each option. Some reject a file or a command that is not there, and those of
+# packaging a second word.
 RUNS = (
     *((name, *option) for name in SCRIPTS for option in OPTIONS),
     *((f"scripts/{name}", "no-such-file", 2) for name in ("counts", "gate-times", "wrap")),
     ("scripts/test", "no-such-word", 2),
+    *((name, "no-such-file another", 2) for name in SCRIPTS if name.startswith("packaging/")),
 )
 
 
@@ -197,6 +204,16 @@ def errors_of_verdicts() -> Iterator[str]:
                 yield f"verdict, {recorded.what}: {verdict}"
 
 
+def errors_of_answers() -> Iterator[str]:
+    """Yields a message for each import that is not left as it should be without an answer."""
+    first = "pub returns : goal.returns\nreturns c = elim c.branch [ then-a w ↦ more w ]\n"
+    second = "pub returns-2 : goal.returns-2\nreturns-2 c = elim c.branch [ else-a w ↦ fewer w ]\n"
+    for given, left in PLACES:
+        found = without(f"use Work.{given}\n\n{first}\n{second}", ["returns-2"])
+        if found != (f"use Work.{left}\n" if left else "") + f"\n{first}\n":
+            yield f"imports without an answer, {given}: {found!r}"
+
+
 def errors_of_places() -> Iterator[str]:
     """Yields a message for each mutant of which another function is found."""
     with tempfile.TemporaryDirectory() as folder:
@@ -212,9 +229,10 @@ def errors_of_places() -> Iterator[str]:
 
 
 def errors_of_options() -> Iterator[str]:
-    """Yields a message for each script that lacks --help or takes an unknown option."""
+    """Yields a message for each script that lacks --help or takes unknown words."""
     for name, option, expected in RUNS:
-        done = subprocess.run([TOP / name, option], stdin=subprocess.DEVNULL, capture_output=True)
+        words = [str(TOP / name), *option.split()]
+        done = subprocess.run(words, stdin=subprocess.DEVNULL, capture_output=True)
         output = done.stderr if expected else done.stdout
         has_usage = b"usage: " in output.lower() or b"    " + name.encode() in output
         if done.returncode != expected or not has_usage:
@@ -229,12 +247,13 @@ def main() -> int:
     found = [
         *errors_of_rules(),
         *errors_of_verdicts(),
+        *errors_of_answers(),
         *errors_of_places(),
         *errors_of_options(),
     ]
     for error in found:
         print(f"scripts: {error}", file=sys.stderr)
-    tables = (SUBJECTS, PATHS, LINKS, OUTPUTS, CHOSEN, MARKDOWN, RECORDED, MUTANTS, RUNS)
+    tables = (SUBJECTS, PATHS, LINKS, OUTPUTS, CHOSEN, MARKDOWN, RECORDED, PLACES, MUTANTS, RUNS)
     print(f"{sum(map(len, tables))} cases of scripts, {len(found)} errors")
     return 1 if found else 0
 
