@@ -236,7 +236,7 @@ def test_new(
 
 
 def check_found(path: bytes, prefix: bytes) -> None:
-    """Rejects a bare name that no image has. The error lists where it was searched for."""
+    """Rejects a bare name that no image has. The error lists the directories that were searched."""
     if b"/" not in path and not os.path.lexists(path):
         missing = f"{printable(path)}: {os.strerror(errno.ENOENT)}"
         raise Error(FILE, f"{missing}; {search_hint(prefix)}")
