@@ -54,7 +54,7 @@ from support.running import (  # noqa: E402
 )
 
 NAMES = ["CLI", "FROM_MECAB", "DICTIONARIES", "LARGE_CORPORA", "C_API", "PYTHON", "SEARCH"]
-DOCUMENTS = ["README.md", *(f"docs/{name}.md" for name in NAMES)]
+DOCUMENTS = ["README.md", "python/README.md", *(f"docs/{name}.md" for name in NAMES)]
 PROGRAMS = [program(name) for name in ("dictc", "jseg")]
 IPADIC = Path("/usr/share/mecab/dic/ipadic/matrix.def")
 BLOCK = re.compile(r"^```(console|python|sql) *(.*?)\n(.*?)^```$", re.M | re.S)
