@@ -17,7 +17,7 @@ pub record HasFirst (bytes : List ℕ) : Type 0 where
   pub numbers : 4 ≤ length bytes
   pub name : 4 + number_at 1 bytes 3 ≤ length bytes
 
--- so many categories lie within the bytes
+-- this number of categories lies within the bytes
 abbrev pub HasCategoriesFirst : ℕ → List ℕ → Type 0
 HasCategoriesFirst zero bytes = Unit {0}
 HasCategoriesFirst (suc n) bytes = HasFirst bytes × HasCategoriesFirst n (after_first_category bytes)

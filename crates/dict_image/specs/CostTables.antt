@@ -30,8 +30,8 @@ cost_from sizes costs first row right = cost_before sizes costs (first + row) ri
 abbrev pub AreRowsTo : MatrixSizes → List ℕ → ℕ → List ℤ → Type 0
 AreRowsTo sizes costs end rows = AreRows (cost_before sizes costs) sizes.right end rows
 
--- the table holds the costs of a dictionary: none only if it is not a system dictionary, all in
--- rows, or some in the cache
+-- the table holds the costs of a dictionary: all in rows, or some in a cache. Only the table of a
+-- user dictionary holds none
 abbrev pub IsCostTable : Kind → MatrixSizes → List ℕ → CostTable → Type 0
 IsCostTable kind sizes costs table.OfUser = kind ≡ System → ⊥
 IsCostTable kind sizes costs (table.InRows rows) = AreRowsTo sizes costs sizes.left rows.items

@@ -4,7 +4,7 @@ use Rattle.image_format.specs.declared.layout.KeyForm.{KeyForm}
 use Rattle.image_format.specs.ImageMeaning.{group_in}
 use Rattle.mj_model.specs.Lists.{up_to}
 
--- each of so many groups has a key, and `group` maps each key to its group
+-- there are `groups` groups, each has a key, and `group` maps each key to its group
 pub record AreGroups (groups : ℕ) (key : ℕ → List ℕ) (group : List ℕ → Option ℕ) : Type 0 where
   pub below : (text : List ℕ) (g : ℕ) → group text ≡ Some g → g < groups
   pub has_key : (g : ℕ) → g < groups → group (key g) ≡ Some g

@@ -26,7 +26,9 @@ impl ContextIds {
         Ok(ContextIds { lefts, rights })
     }
 
-    /// Adds the left id and the right id of a word, unless they were added before.
+    /// Adds the left id and the right id of a word. An id is skipped if it was added before, if it
+    /// is outside the table, or if its side already has `NUMBERED_MAX` ids. If an allocation fails,
+    /// the left id may have been added.
     pub fn add(&mut self, left: u16, right: u16) -> Result<(), AllocError>
         ensures sizes { HaveSameSizes self.old self.new }
         ensures left { OnOk result (IsAdded self.old.lefts left self.new.lefts) }

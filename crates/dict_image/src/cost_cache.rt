@@ -40,8 +40,8 @@ pub(crate) fn cost_cache_of(
 }
 
 /// Returns a row of costs for each of `lefts`, with a column for each of `rights`. Copies column by
-/// column, because section 1 stores the costs of one right id on a few pages, and those of one left
-/// id on a page each.
+/// column, because section 1 stores the costs of one right id on a few pages, but each cost of one
+/// left id on another page.
 fn cached_rows(
     alloc: Global,
     costs: &[u8],

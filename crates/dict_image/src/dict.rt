@@ -73,7 +73,7 @@ impl Dict {
         })
     }
 
-    /// Returns whether it is a user dictionary, which has a lexicon alone.
+    /// Returns whether this is a user dictionary, which has only a lexicon.
     pub fn is_user(&self) -> bool
         ensures kind { result ≡ is_user (image_tables self.now).kind }
         ensures formed { IsWellFormed self.now }

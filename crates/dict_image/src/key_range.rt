@@ -20,6 +20,7 @@ impl<'a> ListedKeys<'a> {
         ensures key_range { IsKeyRange self.now text.now result }
         ensures none { result.length ≡ 0 }
     {
+        // Only the contract uses `text`.
         let _ = text;
         KeyRange {
             length: 0,
@@ -36,6 +37,7 @@ impl<'a> ListedKeys<'a> {
         ensures key_range { IsKeyRange self.now text.now result }
         ensures longer { result.length ≡ started.length + 1 }
     {
+        // For the proof: the contract of `len` states that the keys are in rising order.
         let _ = self.len();
         let place = started.length;
         let code = text[place] as usize + 1;
@@ -55,6 +57,7 @@ impl<'a> ListedKeys<'a> {
         ensures { result
             ≡ listed_number self.now.count self.now.bytes (take started.length text.now) }
     {
+        // `len` is called for its contract, which the proof uses. Only the contract uses `text`.
         let (_, _) = (self.len(), text.len());
         if started.low < started.high && self.key(started.low).len() == started.length {
             Some(started.low as u32)

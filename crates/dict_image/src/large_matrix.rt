@@ -14,8 +14,9 @@ use image_format::Section::Costs;
 use std::alloc::{AllocError, Global};
 
 impl Dict {
-    /// Returns whether the dictionary is a system dictionary with more than `COPIED_MAX` pairs of
-    /// ids, whose connection costs are not copied when it is loaded.
+    /// Returns whether the dictionary is a system dictionary with more than 2^23 pairs of context
+    /// ids (`COPIED_MAX`). Its connection costs are not copied when it is loaded, and `cache_costs`
+    /// speeds up their lookup.
     pub fn is_large_matrix(&self) -> bool
         ensures large { result ≡ is_large_matrix (image_tables self.now) }
         ensures system { IsTrue result → (image_tables self.now).kind ≡ System }

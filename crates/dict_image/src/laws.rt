@@ -19,5 +19,6 @@ impl Dict {
 fn are_bytes(bytes: &[u8])
     ensures { AreBytes bytes.now }
 {
+    // Only the contract uses `bytes`.
     let _ = bytes;
 }

@@ -1,7 +1,9 @@
 //! Compiled dictionaries: loads an image and looks up surfaces, unknown words, character categories
 //! and connection costs in it. Use it to read a dictionary; `word_lookup` and `segmenter` build on
-//! it. `load` tests an image with `validation`. `load_written` skips the tests for an image that
-//! this program wrote, and `load_trusted` for one that is known to be intact.
+//! it. `load` tests an image with `validation`, and `load_without_digest` does so except for the
+//! SHA-256; `load_checking` and `load_image_bytes` take the choice as an argument. `load_written`
+//! and `load_trusted` test nothing: the first is for an image that this program wrote, the second
+//! for one that is known to be intact and of the newest layout.
 //!
 //! An image stores an entry as a token, whose feature is in a section of its own. The tokens of one
 //! surface are a group, and its key is the surface.

@@ -21,7 +21,7 @@ pub fn load(alloc: Global, bytes: Vec<u8>) -> Result<Dict, ImageFault>
     ensures dict { IfOk result (λ dict. dict ≡ bytes.items) }
     ensures accepted { OnOk result (IsIntact bytes.items) }
     ensures rejected { IfErr result (IsLoadFault Verified bytes.items) }
-    // Memory is allocated only after the tests that precede those of the keys.
+    // Nothing is allocated unless the image passes the tests before those of the keys.
     ensures out_of_memory { IfErr result
         (λ fault. fault ≡ Memory → ReachKeys Verified bytes.items) }
 {

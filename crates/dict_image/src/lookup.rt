@@ -9,7 +9,8 @@ use crate::entries::Entries;
 use crate::hits::Prefixes;
 
 impl Dict {
-    /// Returns the entries with the surface `key`, in the order of their source lines.
+    /// Returns the entries with the surface `key`, in the order of their numbers. The compiler
+    /// numbers them in the order of their source lines.
     pub fn entries(&self, key: &str) -> Entries<'_>
         ensures { result ≡ entries_under key.now (image_tables self.now).lexicon }
     {

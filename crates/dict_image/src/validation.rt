@@ -1,7 +1,7 @@
 //! Tests whether bytes are a well-formed image, and reports the positions of its parts.
 //! Use it alone to validate bytes without a dictionary. The tests and their errors, L1 to L8, are
-//! those of docs/FORMAT.md. The test `flipped_bits_of_layout_3` of `crates/dictionary_tests` changes
-//! each bit of an image.
+//! those of docs/FORMAT.md. The test `flipped_bits_of_layout_3` of `crates/dictionary_tests` flips
+//! one bit of each byte of an image.
 
 mod categories;
 mod cell;

@@ -101,7 +101,8 @@ pub record IsNothingSegmented (h : SegmenterState) (fault : SegmentFault) : Type
 abbrev pub HasWord : SegmenterState → ℕ → Type 0
 HasWord h i = IsSomeAnd h.segmented (λ (c : SegmentedLine). i < length c.words)
 
--- why the last path is not printed: there is none, or memory runs out
+-- why the last path is not printed, or its lattice or features are not returned: there is no last
+-- path, or memory runs out
 abbrev pub IsLastLineError : SegmenterState → SegmentFault → Type 0
 IsLastLineError h segment.Memory = IsSome h.segmented
 IsLastLineError h segment.NothingSegmented = h.segmented ≡ None

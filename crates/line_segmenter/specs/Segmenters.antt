@@ -98,7 +98,7 @@ IsLoaded image = IsNew (record { system = image; users = [] })
 abbrev pub OfLastLine : SegmenterState → (SegmentedLine → Type 0) → Type 0
 OfLastLine h Is = IsSomeAnd h.segmented (λ c. IsSegmentedOver (overlay_of_state h) c × Is c)
 
--- the text of the path in the segmenter's format
+-- `shown` is the output of the last path in the segmenter's format
 abbrev pub PrintsLastLine : SegmenterState → SegmentedLine → List ℕ → Type 0
 PrintsLastLine h c shown = PrintsPath (overlay_of_state h) h.format c.text c.words shown
 

@@ -18,8 +18,8 @@ pub struct LastWords<'a> {
 }
 
 impl<'a> LastWords<'a> {
-    /// Returns the number of the first category of the first character of `word`, in the order of
-    /// `char.def`.
+    /// Returns the number of the first category of the first character of `word` (MeCab's
+    /// `char_type`). Categories are numbered from 0 in the order of `char.def`.
     pub fn category(&self, word: &Word) -> u8
         requires { IsTrue (is_place self.now.text.now word.now.start) }
         ensures { result ≡ first_category_at (overlay_of self.now.dictionaries)

@@ -1,4 +1,4 @@
-//! A segmenter in a process: owns its dictionaries, its format and the buffers of the search.
+//! The segmenter as a library: it owns its dictionaries, its format and the buffers of the search.
 //!
 //! Use `Segmenter` to segment many lines. It reuses its buffers, and keeps the last line with its
 //! best path, from which it returns words, costs, features and the lattice. The next line replaces
@@ -10,11 +10,12 @@
 //!
 //! ```text
 //! let mut segmenter = Segmenter::load(alloc, image, DigestTest::Verified)?;
-//! segmenter.append_feature(0, &mut out)   // Err(SegmentFault::NothingSegmented)
+//! segmenter.set_format("%m/%f[0]/%c/%pn/%pc\\s", None, "", "%pc\\n")?;
 //! segmenter.segment("すもももも".as_bytes())?;
+//! segmenter.print(&mut out)?;   // out: "すもも/名詞/100/110/110 もも/名詞/30/37/147 152\n"
 //! segmenter.append_feature(2, &mut out)   // Err(SegmentFault::NoWord(2)), the path has two words
 //! ```
-//! The test `no_such_word` of `crates/text_tests` runs it.
+//! The tests `formats` and `no_such_word` of `crates/text_tests` run it.
 #![tactic(auto)]
 
 mod categories;

@@ -1,4 +1,5 @@
-//! The end of a path: its last right id and its cost.
+//! The end of a path: its last right id and its cost. Callers extend it word by word, to get the
+//! cost of the path up to each word.
 
 ghost use Rattle.std.specs.Prelude.{◌≡◌};
 ghost use Rattle.line_segmenter.specs.PathEnds.{CanFollow, path_end_after};

@@ -60,7 +60,8 @@ impl Segmenter {
     /// MeCab's default format.
     ///
     /// `digest` selects whether the checksum is verified. Fails with `Image` if the image is
-    /// invalid, and with `Overlay` if it is a user dictionary.
+    /// invalid, with `Overlay` if it is a user dictionary, and with `Memory` if an allocation
+    /// fails.
     #[tactic(auto, using(crate::proofs::OutOfMemoryLemmas::passes))]
     pub fn load(
         alloc: Global,
@@ -78,8 +79,10 @@ impl Segmenter {
         Ok(Segmenter::over(alloc, OwnedDictionaries::load(alloc, image, digest)?)?)
     }
 
-    /// Returns a segmenter with the image of a system dictionary, which must be intact and of the
-    /// newest layout. Does what `load` does, without the checks of the image.
+    /// Returns a segmenter with the image of a system dictionary, a grouping of 24 characters and
+    /// MeCab's default format. The image must be intact and of the newest layout; its bytes are not
+    /// tested. Fails with `Overlay` if it is a user dictionary, and with `Memory` if an allocation
+    /// fails.
     pub fn load_trusted(alloc: Global, image: ImageBytes) -> Result<Segmenter, SegmentFault>
         requires { IsTrusted image }
         ensures loaded { IfOk result (IsLoaded image) }
@@ -122,8 +125,8 @@ impl Segmenter {
     /// Loads the image of a user dictionary, adds it after the others, and removes the last line.
     ///
     /// `digest` selects whether the checksum is verified. Fails with `Shared` if another segmenter
-    /// shares the dictionaries, with `Image` if the image is invalid, and with `Overlay` if it does
-    /// not fit the others.
+    /// shares the dictionaries, with `Image` if the image is invalid, with `Overlay` if it does not
+    /// fit the others, and with `Memory` if an allocation fails. On an error nothing changes.
     pub fn add_user(&mut self, image: ImageBytes, digest: DigestTest) -> Result<(), SegmentFault>
         ensures added { OnOk result (self.new ≡ with_added self.old image) }
         ensures accepted { OnOk result (IsImage digest image) }
@@ -141,8 +144,10 @@ impl Segmenter {
         Ok(())
     }
 
-    /// Adds the image of a user dictionary, which must be intact and of the newest layout. Does
-    /// what `add_user` does, without the checks of the image.
+    /// Adds the image of a user dictionary after the others, and removes the last line. The image
+    /// must be intact and of the newest layout; its bytes are not tested. Fails with `Shared` if
+    /// another segmenter shares the dictionaries, with `Overlay` if the image does not fit the
+    /// others, and with `Memory` if an allocation fails. On an error nothing changes.
     pub fn add_trusted_user(&mut self, image: ImageBytes) -> Result<(), SegmentFault>
         requires { IsTrusted image }
         ensures added { OnOk result (self.new ≡ with_added self.old image) }
@@ -162,7 +167,8 @@ impl Segmenter {
     /// Sets the format of `print` and `parse_lines` by the texts of MeCab's node, unknown word, BOS
     /// and EOS formats. Unknown words use `node` if `unk` is `None`. The last line stays.
     ///
-    /// Fails with `Format` if a text is invalid.
+    /// Fails with `Format` if a text is invalid, and with `Memory` if an allocation fails. On an
+    /// error nothing changes.
     pub fn set_format(
         &mut self,
         node: &str,
@@ -182,8 +188,9 @@ impl Segmenter {
         Ok(())
     }
 
-    /// Sets the number of characters that may follow the first one of a grouped unknown word, at
-    /// most `GROUPING_MAX`, and removes the last line.
+    /// Sets the number of characters that may follow the first one of a grouped unknown word, and
+    /// removes the last line. Fails with `BadGrouping`, and changes nothing, if `grouping` is
+    /// greater than `GROUPING_MAX`.
     pub fn set_grouping(&mut self, grouping: u16) -> Result<(), SegmentFault>
         ensures set { OnOk result
             (self.new ≡ record self.old { grouping = grouping; segmented = None }) }

@@ -107,8 +107,8 @@ impl Segmenter {
         Ok(self.last_line()?.1.total)
     }
 
-    /// Appends the feature of word `i` of the last path, counted from 0. Memory can only run out if
-    /// the capacity of `out` is too small.
+    /// Appends the feature of word `i` of the last path, counted from 0. Fails with `NoWord` if
+    /// there is no such word, and with `Memory` only if the capacity of `out` is too small.
     pub fn append_feature(&self, i: usize, out: &mut Vec<u8>) -> Result<(), SegmentFault>
         ensures appended { OnOk result
             (OfLastLine self.now (GrowsByFeature self.now i out.old.items out.new.items)) }
@@ -161,8 +161,9 @@ impl Segmenter {
         Ok(())
     }
 
-    /// Returns the number of the first category of the first character of word `i`, in the order of
-    /// `char.def`.
+    /// Returns the number of the first category of the first character of word `i` (MeCab's
+    /// `char_type`). Categories are numbered from 0 in the order of `char.def`. Fails with `NoWord`
+    /// if there is no such word.
     pub fn category(&self, i: usize) -> Result<u8, SegmentFault>
         ensures category { IfOk result
             (λ category. OfLastLine self.now (HasCategory self.now i category)) }

@@ -17,10 +17,12 @@ pub struct LinesFault {
 }
 
 impl Segmenter {
-    /// Segments each line of `text` and appends its output in the format, up to the first error.
-    /// Returns the number of lines.
+    /// Segments each line of `text`, appends its output in the segmenter's format to `out`, and
+    /// returns the number of lines.
     ///
-    /// A line ends at an LF. The final LF may be missing. Afterwards there is no last line.
+    /// A line ends at an LF. The final LF may be missing. Stops at the first line that is too long
+    /// or not UTF-8, or if an allocation fails; the output of the lines before it stays in `out`.
+    /// Afterwards there is no last line, also on an error.
     pub fn parse_lines(&mut self, text: &[u8], out: &mut Vec<u8>) -> Result<u64, LinesFault>
         // If the result is Ok, it is the number of lines, all lines are valid, and the segmentation
         // of the text was appended: for each line the formatted words of its best path.
@@ -33,8 +35,8 @@ impl Segmenter {
         self.print_lines(text, out)
     }
 
-    /// Appends the output of the lines of `text` up to the first error. Returns what `parse_lines`
-    /// returns.
+    /// Appends the output of the lines of `text` up to the first error. Returns the number of
+    /// lines, or the error with the number of its line.
     fn print_lines(&mut self, text: &[u8], out: &mut Vec<u8>) -> Result<u64, LinesFault>
         ensures printed { IfOk result (AppendsLines self.old text.now out.old.items out.new.items) }
         ensures stopped { IfErr result (AppendsUpTo self.old text.now out.old.items out.new.items) }

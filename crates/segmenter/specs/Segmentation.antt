@@ -8,8 +8,8 @@ use Rattle.out_format.specs.Formats.{Format}
 use Rattle.out_format.specs.Segmentation.{IsSegmentation}
 
 -- the reader's whole remaining text, of `lines` lines, was read, and its segmentation was written
--- and then flushed once. If the bytes of the reader or of the writer are not known, this is true of
--- some text
+-- and then flushed once. If the bytes in the state of the reader or writer are unknown (`None`),
+-- some `text` has these properties
 pub record WroteSegmentation (o : Overlay) (format : Format) (reader_before reader_after : ReaderState) (writer_before writer_after : WriterState) (lines : ℕ) : Type 0 where
   pub text : List ℕ
   pub output : List ℕ

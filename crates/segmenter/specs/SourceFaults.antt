@@ -5,7 +5,7 @@ use Rattle.mj_model.specs.declared.run_fault.RunFault.TheVariants as run
 use Rattle.mj_model.specs.declared.source_fault.SourceFault.{SourceFault}
 use Rattle.mj_model.specs.declared.source_fault.SourceKind.TheVariants.{Memory}
 
--- a run ends before its first read for an error of the sources: with `Memory 0` if memory ran out,
--- otherwise with `end fault`
+-- the error of a run whose sources have the error `fault`: `Memory 0` if memory ran out, otherwise
+-- `end fault`
 pub record IsRunFaultFor (end : SourceFault → RunFault) (fault : SourceFault) (reported : RunFault) : Type 0 where
   pub either : ((reported ≡ run.Memory 0) × (fault.kind ≡ Memory)) ⊎ ((reported ≡ end fault) × (fault.kind ≡ Memory → ⊥))

@@ -1,8 +1,9 @@
 //! Segments text: reads lines, finds the best path of each, and prints its words.
 //!
 //! Use `segment` with loaded dictionaries, and `run_sources` to compile the sources and segment in
-//! one call. Both take a counted reader and writer. To keep dictionaries and buffers between calls,
-//! use the crate `line_segmenter`.
+//! one call. Both take a reader and a writer that count their calls: wrap yours in
+//! `mj_model::Counted`. To keep dictionaries and buffers between calls, use the crate
+//! `line_segmenter`.
 //!
 //! Example:
 //!

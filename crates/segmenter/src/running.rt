@@ -61,7 +61,8 @@ pub fn run_sources<R: TextIn, W: TextOut>(
     ensures before_reading { EndedBeforeReading result
         → (reader.new ≡ reader.old) × (writer.new ≡ writer.old) }
     // Every other run used the dictionaries that the sources and user lexicons define, which cover
-    // every text: what was read, what was written, how the run ended, and where the reader is.
+    // every text. For each result: what was read and written, how the run ended, and when the
+    // reader is at its end.
     ensures run { EndedBeforeReading result
         ⊎ RunOverSources sources.now (users_of users.now) grouping format.now
         (R.state reader.old) (R.state reader.new) (W.state writer.old) (W.state writer.new) result }

@@ -21,7 +21,12 @@ use word_lookup::Dictionaries;
 ///
 /// The lines of one read are processed before the next read. Output of more than 64 KiB is written
 /// before the next line is printed. The writer is flushed once, at the end of the input. After an
-/// error the caller flushes. Each counter of reader and writer must be below 2^63 at the start.
+/// error the caller flushes. The counts of `reader` and `writer` (see `TextIn` and `TextOut`) must
+/// be below 2^63 at the start; in a new `Counted` they are 0.
+///
+/// Fails with `NotUtf8` or `TooLong` at the first invalid line, with `Read`, `Write` or `Memory` if
+/// a read, a write or an allocation fails, and with `InputTooLong` if `READS_MAX` reads do not
+/// reach the end. Unless it is `Write`, the output of the lines before the error is written.
 pub fn segment<R: TextIn, W: TextOut>(
     alloc: Global,
     dictionaries: &Dictionaries<'_>,
@@ -33,11 +38,13 @@ pub fn segment<R: TextIn, W: TextOut>(
     // Each UTF-8 text has exactly one best path.
     ensures covered { CoversTexts (overlay_of dictionaries.now) }
     // If the result is Ok, the whole text was read, all its lines are valid, and its segmentation
-    // was written and flushed once: for each line the formatted words of its best path. If it is
-    // not known which bytes the reader has or the writer holds, this is true of some text.
+    // was written and flushed once: for each line the formatted words of its best path. If the
+    // bytes of the reader or writer are unknown in contracts, as those of a file are, some text has
+    // these properties.
     ensures ok { IfOk result (WroteSegmentation (overlay_of dictionaries.now) format.now
         (R.state reader.old) (R.state reader.new) (W.state writer.old) (W.state writer.new)) }
-    // What was read, what was written, how the run ended, and where the reader is.
+    // For each result: what was read and written, how the run ended, and when the reader is at its
+    // end.
     ensures run { RunOutcome (LineResult (overlay_of dictionaries.now) format.now) ReadsMax
         (R.state reader.old) (R.state reader.new) (W.state writer.old) (W.state writer.new) result }
     // If no line is invalid, no call fails and the input ends within the bound, the result is Ok or

@@ -7,8 +7,8 @@ ghost use Rattle.segmenter.specs.SourceFaults.{IsRunFaultFor};
 
 use mj_model::{RunFault, SourceFault, SourceKind};
 
-/// Returns the error of a run whose sources have the error `fault`: `Memory(0)` if memory ran out,
-/// which belongs to no line, otherwise `reported`.
+/// Returns the error of a run whose sources have the error `fault`: `Memory(0)`, which belongs to
+/// no line, if memory ran out, otherwise `reported`, the caller's `RunFault` for `fault`.
 pub fn run_fault_of(fault: SourceFault, reported: RunFault) -> RunFault
     ensures { (end : FaultOf → FaultOfRun)
         → reported ≡ end fault → IsRunFaultFor end fault result }

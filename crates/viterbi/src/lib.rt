@@ -1,14 +1,15 @@
-//! Finds the best path through the words of a text with the Viterbi algorithm. `lattice` uses it
-//! with dictionaries. Use it directly with any other source of words and connection costs that
-//! implements `search::WordSource`. `search` finds the best path, `nodes` computes the lattice with
-//! the forward cost of each node and the cost of the best path through it, and `rivals` finds the
-//! best alternative to each word of the best path.
+//! Finds the best path through the words of a text with the Viterbi algorithm. The crate `lattice`
+//! uses it with dictionaries. Use it directly with any other source of words and connection costs
+//! that implements `search::WordSource`. `search` finds the best path, `nodes` computes the lattice
+//! with the forward cost of each node and the cost of the best path through it, and `rivals` finds
+//! the best alternative to each word of the best path.
 //!
 //! A chain is a list of words, each at the end of the word before it and, unless stated otherwise,
 //! the first at the start of the text. A path is a chain that ends as late as any. The position of
 //! a word is the byte offset before its blanks, `Word::place`.
 //!
-//! Example, on a text of 2 bytes with the words `a` (0 to 1), `b` (1 to 2) and `ab` (0 to 2):
+//! Example, on a text of 2 bytes with the words `a` (0 to 1), `b` (1 to 2) and `ab` (0 to 2) of
+//! word costs 10, 10 and 27. Connections cost 10 after BOS, 7 between words and 5 before EOS:
 //!
 //! ```text
 //! Search::new(alloc).fill(&text, &mut path)?;   // the words `a` and `b`, total 42

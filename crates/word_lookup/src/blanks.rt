@@ -16,7 +16,8 @@ use crate::scan_cache::ScanCache;
 use crate::word_start::suffix;
 
 impl<'a> Dictionaries<'a> {
-    /// Returns the position after the blanks at position `place`, in bytes.
+    /// Returns the byte offset after the blanks at byte offset `place`, which must be a character
+    /// boundary of `text`. Returns `place` if there are no blanks.
     #[inline(always)]
     pub fn blanks(&self, text: &str, place: usize) -> usize
         requires { IsTrue (is_place text.now place) }

@@ -25,8 +25,8 @@ pub const COLLECTED_MAX: u32 = 128;
 
 impl Dictionaries<'_> {
     /// Adds the context ids of the first `COLLECTED_MAX` words of each position of `text` to `ids`,
-    /// in order, and returns the number of these words. For its runs, each character is scanned
-    /// once.
+    /// in order, and returns the number of these words. Runs of characters are cached, so that each
+    /// character is scanned once. If an allocation fails, some ids may have been added.
     pub fn collect_context_ids(
         &self,
         alloc: Global,

@@ -1,6 +1,8 @@
 //! Looks up the words at a position of a text: the known words of a system dictionary and its user
-//! dictionaries, and unknown words by character category. Use it to list the words of one position.
-//! `lattice` does so for each position that it reaches, and finds the best path.
+//! dictionaries, and unknown words by character category. A position is a byte offset at a
+//! character boundary; the surfaces of its words start after the blanks there. Use this crate to
+//! list the words of one position. The crate `lattice` does so for each position that it reaches,
+//! and finds the best path.
 //!
 //! Example, with a dictionary compiled from the sample sources of `mj_model`:
 //!

@@ -9,8 +9,8 @@ use crate::category_scan::CategoryScan;
 /// The last scans of a text, kept for lookups at successive positions.
 ///
 /// The run at a position without blanks and the run after the blanks of a position are cached
-/// separately. The blanks may end far after the next position, so that a single run would be
-/// scanned anew at each of them.
+/// separately. Positions of both kinds may alternate, and the blanks may end far away. With one
+/// slot, each run would evict the other and be scanned again at each position.
 #[derive(Clone, Copy, Debug, Drop)]
 pub struct ScanCache {
     pub(crate) blanks: Option<BlankScan>,

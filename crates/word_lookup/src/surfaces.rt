@@ -21,12 +21,12 @@ use mj_model::paths::Surface;
 use std::alloc::AllocError;
 
 impl<'a> Dictionaries<'a> {
-    /// Appends the words of position `place` to `out`, grouped by surface, in the order of
-    /// `words_at`.
+    /// Appends the words at byte offset `place`, a character boundary of `text`, to `out`, grouped
+    /// by surface and in the order of `words_at`.
     ///
-    /// `last` caches the runs that were scanned before; start with `ScanCache::none()`. For
-    /// positions in increasing order, each run is scanned once. On an allocation failure `out` is
-    /// unchanged.
+    /// `last` caches the runs of this text that were scanned before; start each text with
+    /// `ScanCache::none()`. For positions in increasing order, each run is scanned once. On an
+    /// allocation failure `out` is unchanged.
     #[inline(always)]
     pub fn surfaces_at(
         &self,

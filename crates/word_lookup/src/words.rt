@@ -14,9 +14,9 @@ use mj_model::paths::Surface;
 use std::alloc::{AllocError, Global};
 
 impl Dictionaries<'_> {
-    /// Appends the words of position `place` to `out`: first the known words, dictionary by
-    /// dictionary and shorter ones first, then the unknown words. On an allocation failure `out` is
-    /// unchanged.
+    /// Appends the words at `place`, after the blanks there, to `out`: first the known words,
+    /// dictionary by dictionary and shorter ones first, then the unknown words. `place` is a byte
+    /// offset at a character boundary of `text`. On an allocation failure `out` is unchanged.
     pub fn words_at(
         &self,
         alloc: Global,

@@ -1,4 +1,4 @@
-//! A cell of the double array, and its role by the rules.
+//! A cell of the double array, and its role by the rules of docs/FORMAT.md.
 ghost use Rattle.std.specs.Prelude.{◌≡◌, ℕ, ◌<◌, pos, length, MatchOption};
 ghost use Rattle.mj_model.specs.CellMap.{cell_at, check as check_of};
 ghost use Rattle.image_format.specs.ImageSections.{stored_cells};

@@ -28,7 +28,7 @@ pub fn check_image(alloc: Global, bytes: &[u8], digest: DigestTest) -> Result<Ou
     ensures accepted { OnOk result (IsAccepted digest bytes.now) }
     ensures rejected { IfErr result
         (λ fault. (fault ≡ Memory) ⊎ IsImageFault digest bytes.now fault) }
-    // Memory is allocated only after the tests that precede those of the keys.
+    // Nothing is allocated unless the image passes the tests before those of the keys.
     ensures out_of_memory { IfErr result (λ fault. fault ≡ Memory → ReachKeys digest bytes.now) }
 {
     let header = check_prefix(bytes)?;

@@ -9,7 +9,7 @@ use image_format::{DigestTest, HEADER_LENGTH, Header, MAGIC, read_header, sectio
 use mj_model::ImageFault;
 use sha2::{Digest, Sha256};
 
-/// Tests the magic and the layout. Returns the header.
+/// Tests the length of the header, the magic and the layout. Returns the header.
 pub(crate) fn check_prefix(bytes: &[u8]) -> Result<Header, ImageFault>
     ensures { PrefixResult bytes.now result }
 {

@@ -42,7 +42,7 @@ abbrev pub IsAfter : (ℕ → List Word) → (ℕ → ℕ → ℤ) → List Latt
 IsAfter words conn nodes n cost connection None = EndsPath words conn n cost connection
 IsAfter words conn nodes n cost connection (Some k) = (m : LatticeNode) × (slice_get nodes k ≡ Some m) × ContinuesWith conn n cost connection m
 
--- the neighbor after n if some path contains n; the neighbor of a dead end is none
+-- the neighbor after n if some path contains n, otherwise none
 abbrev pub IsAfterIfSome : (ℕ → List Word) → (ℕ → ℕ → ℤ) → List LatticeNode → LatticeNode → Option ℤ → Neighbor → Type 0
 IsAfterIfSome words conn nodes n None link = link.node ≡ None
 IsAfterIfSome words conn nodes n (Some cost) link = IsAfter words conn nodes n cost link.connection link.node

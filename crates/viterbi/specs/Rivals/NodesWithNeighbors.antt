@@ -5,8 +5,8 @@ use Rattle.viterbi.specs.declared.nodes.lattice_node.LatticeNode.{LatticeNode}
 use Rattle.viterbi.specs.Rivals.Neighbors.{LeadWithin}
 use Rattle.viterbi.specs.declared.rivals.nodes_with_neighbors.NodesWithNeighbors.{NodesWithNeighbors}
 
--- the lists have one entry for each node, neighbors have numbers of nodes, and no forward cost is
--- near overflow
+-- the lists have one entry for each node, the number of each neighbor is that of a node, and no
+-- forward cost is near overflow
 pub record HaveNeighbors (linked : NodesWithNeighbors) : Type 0 where
   pub on_best_long : length linked.on_best.items ≡ length linked.nodes.items
   pub before_long : length linked.before.items ≡ length linked.nodes.items

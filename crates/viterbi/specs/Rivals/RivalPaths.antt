@@ -24,8 +24,8 @@ abbrev pub AreOff : List Word → List PathStep → Type 0
 AreOff path [] = Unit {0}
 AreOff path (s ∷ steps) = (Contains path s.word → ⊥) × AreOff path steps
 
--- there are at most `STEPS_MAX` steps on one side of the rival's word, and exactly so many if they
--- don't reach the best path
+-- there are at most `STEPS_MAX` steps on one side of the rival's word, and exactly `STEPS_MAX` if
+-- they don't reach the best path
 pub record AreShown (reaches : Bool) (steps : List PathStep) : Type 0 where
   pub few : length steps ≤ STEPS_MAX
   pub left_out : reaches ≡ false → length steps ≡ STEPS_MAX

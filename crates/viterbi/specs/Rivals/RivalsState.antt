@@ -22,7 +22,8 @@ pub record RivalsState : Type 0 where
   pub bests : List (Option Rival)
   pub steps : List PathStep
 
--- neighbors and best rivals have numbers of nodes, and no forward cost is near overflow
+-- the number of each neighbor and best rival is that of a node, and no forward cost is near
+-- overflow
 pub record IsRivalsState (linked : NodesWithNeighbors) (bests : List (Option Rival)) : Type 0 where
   pub held : HaveNeighbors linked
   pub nodes : (i : ℕ) (r : Rival) → slice_get bests i ≡ Some (Some r) → r.number < length linked.nodes.items

@@ -11,15 +11,15 @@ use Rattle.viterbi.specs.Search.Lattice.{IsBelow, IsBacktrace}
 use Rattle.viterbi.specs.Search.Nodes.{AreSurfaceNodes, Node, link_of, node_words}
 use Rattle.viterbi.specs.Search.SearchedText.{IsBestIn, SearchedText, cost_of}
 
--- the chain that the backtrace from the predecessor of EOS gives is the best path, and `j` has its
--- cost
+-- `j` is the predecessor of EOS: the backtrace from it visits the words of the best path, and its
+-- cost is that of the path
 pub record BacktracesTo (t : SearchedText) (nodes : List Node) (j : Predecessor) : Type 0 where
   pub chain : List Word
   pub traced : IsBacktrace nodes (link_of j.before) chain
   pub best : IsBestIn t (reverse chain)
   pub cost : j.cost ≡ cost_of t (reverse chain)
 
--- each node's predecessor has a lower number, as the backpointers are stored
+-- in the stored backpointers each node's predecessor has a lower number
 abbrev pub StoredLinksGoBack : List Backpointer → Type 0
 StoredLinksGoBack backpointers = (i : ℕ) (b : Backpointer) → slice_get backpointers i ≡ Some b → IsBelow (link_of b.before) i
 

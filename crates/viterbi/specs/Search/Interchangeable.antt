@@ -1,4 +1,5 @@
--- Words that are interchangeable: each has the same best chain before it, at the same cost.
+-- Words that are interchangeable: they have the same context ids and word cost. So at one position
+-- they have the same predecessor and forward cost.
 use Rattle.std.specs.Prelude.{◌≡◌, ℕ, ◌+◌, ◌++◌, ◌<◌, List, length, reverse, slice_get, Some}
 use Rattle.mj_model.specs.declared.word.Word.{Word}
 use Rattle.mj_model.specs.declared.paths.surface.Surface.{Surface}

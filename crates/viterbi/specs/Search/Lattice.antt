@@ -1,5 +1,6 @@
--- The lattice as the search builds it: words with their predecessors, complete from the k-th word
--- of a position on.
+-- The lattice while the search builds it: words with their predecessors. Positions are processed in
+-- rising order, and the words of a position from the last one back. So the lattice is complete
+-- before a position p, and at p from the k-th word on.
 use Rattle.std.specs.Prelude.{◌≡◌, ℕ, ℤ, ◌+ℤ◌, ◌<◌, ◌≤◌, List, [], ◌∷◌, slice_get, Option, Some, None, Contains, ◌⊎◌}
 use Rattle.mj_model.specs.declared.word.Word.{Word}
 use Rattle.viterbi.specs.Search.Nodes.{Node, link_of}

@@ -11,7 +11,7 @@ pub record Supersedes (rank : ℕ) (e : EndNode) (other : ℕ) (x : EndNode) : T
   pub right : e.right ≡ x.right
   pub cost : (e.total <ℤ x.total) ⊎ ((e.total ≡ x.total) × (rank ≤ other))
 
--- the end nodes that are left, in their order: each one of all is replaced by one that is left
+-- `ends` are some of `all`, in their order, and each of `all` is replaced by one of `ends`
 pub record ArePrunedFrom (all ends : List EndNode) : Type 0 where
   pub rank : ℕ → ℕ
   pub each : (r : ℕ) (e : EndNode) → slice_get ends r ≡ Some e → slice_get all (rank r) ≡ Some e

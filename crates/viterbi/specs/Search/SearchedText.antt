@@ -25,7 +25,8 @@ pub record SearchedText : Type 1 where
   pub is_place : ℕ → Type 0
   pub is_pair : ℕ → ℕ → Type 0
 
--- the text meets the precondition of the search
+-- the text can be searched: it has at most 2^20 bytes; words are not empty, end at positions within
+-- it and are listed once; every word and EOS may follow BOS and every word
 abbrev pub CanBeSearched : SearchedText → Type 0
 CanBeSearched t = IsSearchable t.is_place t.is_pair t.words t.connection t.text_length
 

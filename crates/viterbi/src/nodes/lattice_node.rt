@@ -8,7 +8,7 @@ pub struct LatticeNode {
     pub word: Word,
     /// The forward cost: the least cost of the chains from BOS up to and including this word.
     pub total: i64,
-    /// The least cost of the paths of the whole text that contain this word, or `None` for a dead
-    /// end.
+    /// The least cost of the paths of the whole text that contain this word, or `None` if no path
+    /// contains it.
     pub through: Option<i64>,
 }

@@ -54,8 +54,8 @@ impl<'a, S: WordSource> NodesByPosition<'a, S> {
         Ok(links)
     }
 
-    /// Sets node `number` as the predecessor of the nodes to which it leads at least cost. Earlier
-    /// nodes are done.
+    /// Sets node `number` as the predecessor of each node that it precedes on a chain of least
+    /// cost. Earlier nodes are done.
     fn propagate(&self, number: usize, links: &mut [Neighbor])
         requires placed { ArePlaced (S.searched_text self.now.source.now)
             self.now.nodes.now self.now.firsts.now }

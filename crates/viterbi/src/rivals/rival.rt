@@ -9,7 +9,8 @@ use crate::nodes::LatticeNode;
 use crate::rivals::crossing::replaces;
 use mj_model::Word;
 
-/// A node by its number in a lattice, and the least cost of the paths through it.
+/// The best rival of a word: the number of a node of the lattice that replaces the word, and the
+/// least cost of the paths through that node.
 #[derive(Clone, Copy, Debug, PartialEq, Eq, Drop)]
 pub struct Rival {
     pub number: usize,

@@ -18,5 +18,7 @@ pub struct RivalPath {
     /// Whether the words after the last step are those of the best path. Otherwise more words
     /// differ, and were left out.
     pub ends: bool,
+    /// The words that are not on the best path, in order: the rival's word, and up to `STEPS_MAX`
+    /// words on each side of it.
     pub steps: Vec<PathStep>,
 }

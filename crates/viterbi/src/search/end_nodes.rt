@@ -18,7 +18,7 @@ const BOS_NODE: EndNode = EndNode {
 };
 
 /// Fills `ends` with the end nodes of position `place`, the latest node first. If costs are equal,
-/// the earlier entry is preferred.
+/// the one that comes first in `ends` is preferred.
 #[inline(always)]
 pub fn collect_end_nodes<S: WordSource>(
     source: &S,

@@ -66,8 +66,9 @@ pub fn from_one_based(number: usize) -> Option<usize>
 
 /// A node that ends at a position, or BOS: a possible predecessor of the words that start there.
 ///
-/// `total` is the forward cost of the node and `right` its right id. `before` is the number of the
-/// node itself (it comes before the words that start at the position), counted from 1, or 0 for BOS.
+/// `total` is the forward cost of the node, and `right` its right id. `before` is the number of the
+/// node itself, because the node comes before the words that start at the position. It is counted
+/// from 1, and 0 is BOS.
 #[derive(Clone, Copy, Debug, Drop)]
 pub struct EndNode {
     pub total: i64,

@@ -2,9 +2,9 @@
 //!
 //! All words of a surface end at one position. Among those with one right id, only the first with
 //! the least forward cost can be on a best path, because whatever follows costs the same after each
-//! of them. A surface of more than `MANY_WORDS` words (32) is replaced by surfaces of one word each,
-//! if that takes less memory. After pruning, a surface has at most 64 nodes, or at most four for
-//! each right id.
+//! of them. A surface of more than `MANY_WORDS` words (32) is replaced by surfaces of one word
+//! each, if that takes less memory. So at most 32 words of a surface are left, or at most four for
+//! each right id. The contract promises 64 instead of 32 (`few_words`).
 
 ghost use Rattle.std.specs.Prelude.{◌≡◌, ◌^◌, ◌+ℤ◌, ◌<◌, OnOk, length};
 ghost use Rattle.mj_model.specs.Bounds.{IsWithin};
@@ -129,7 +129,8 @@ impl Pruning {
     }
 }
 
-/// Returns whether one of `surfaces` has `MANY_WORDS` words or more.
+/// Returns whether one of `surfaces` has at least `MANY_WORDS` words. If it has exactly that many,
+/// `add_pruned` keeps it whole.
 ///
 /// Few positions have such a surface, so the loop has no early exit: it only combines the bits of
 /// all counts. They reach a power of two if and only if one of the counts does.

@@ -14,6 +14,10 @@ use std::alloc::AllocError;
 
 /// A text with its words by position, grouped by surface, and the connection cost of each pair of
 /// context ids.
+///
+/// Each search requires `CanBeSearched`. The text has at most 2^20 bytes. Each word is not empty,
+/// ends at a position within the text, and is listed once, at the position where it starts. Every
+/// word and EOS may follow BOS and every word.
 pub trait WordSource {
     /// The words of one surface, in a form from which each can be read.
     type Words: Drop;
