@@ -86,15 +86,15 @@ module _ (digest : DigestTest) (image : List ℕ) where
   lay_want (Some h) call.ShortBuffer rejected reported = absurd rejected
 
   -- what holds if memory runs out holds if its code is returned
-  reported_position : {T : Type 0} (Is : CallFault → Type 0) → ((fault : CallFault) → Is fault → call_code fault ≡ memory → fault ≡ call.Segment segment.Memory) → (answer : Result T CallFault) (code : ℕ) → code ≡ result_code answer
-      → IfErr answer Is → IfErr answer (λ fault. fault ≡ call.Segment segment.Memory → PassesTestsBeforeKeys digest image) → code ≡ memory → PassesTestsBeforeKeys digest image
-  reported_position Is want (Ok x) code is rejected starved reported = absurd (let done : 0 ≡ memory = sym is ∙ reported in omega (arith, done))
-  reported_position Is want (Err fault) code is rejected starved reported = starved (want fault rejected (sym is ∙ reported))
+  reported_position : {T : Type 0} (Is : CallFault → Type 0) → ((fault : CallFault) → Is fault → call_code fault ≡ memory → fault ≡ call.Segment segment.Memory) → (outcome : Result T CallFault) (code : ℕ) → code ≡ result_code outcome
+      → IfErr outcome Is → IfErr outcome (λ fault. fault ≡ call.Segment segment.Memory → PassesTestsBeforeKeys digest image) → code ≡ memory → PassesTestsBeforeKeys digest image
+  reported_position Is want (Ok x) code is rejected no_memory reported = absurd (let done : 0 ≡ memory = sym is ∙ reported in omega (arith, done))
+  reported_position Is want (Err fault) code is rejected no_memory reported = no_memory (want fault rejected (sym is ∙ reported))
 
-  pub load_out_of_memory : {T : Type 0} (old : Option SegmenterState) (answer : Result T CallFault) (code : ℕ) → code ≡ result_code answer → IfErr answer (IsFillError old (IsLoadError digest image))
-      → IfErr answer (λ fault. fault ≡ call.Segment segment.Memory → PassesTestsBeforeKeys digest image) → code ≡ memory → PassesTestsBeforeKeys digest image
+  pub load_out_of_memory : {T : Type 0} (old : Option SegmenterState) (outcome : Result T CallFault) (code : ℕ) → code ≡ result_code outcome → IfErr outcome (IsFillError old (IsLoadError digest image))
+      → IfErr outcome (λ fault. fault ≡ call.Segment segment.Memory → PassesTestsBeforeKeys digest image) → code ≡ memory → PassesTestsBeforeKeys digest image
   load_out_of_memory old = reported_position (IsFillError old (IsLoadError digest image)) (fill_want old)
 
-  pub user_out_of_memory : {T : Type 0} (old : Option SegmenterState) (answer : Result T CallFault) (code : ℕ) → code ≡ result_code answer → IfErr answer (IsCallError old (IsUserFault digest image))
-      → IfErr answer (λ fault. fault ≡ call.Segment segment.Memory → PassesTestsBeforeKeys digest image) → code ≡ memory → PassesTestsBeforeKeys digest image
+  pub user_out_of_memory : {T : Type 0} (old : Option SegmenterState) (outcome : Result T CallFault) (code : ℕ) → code ≡ result_code outcome → IfErr outcome (IsCallError old (IsUserFault digest image))
+      → IfErr outcome (λ fault. fault ≡ call.Segment segment.Memory → PassesTestsBeforeKeys digest image) → code ≡ memory → PassesTestsBeforeKeys digest image
   user_out_of_memory old = reported_position (IsCallError old (IsUserFault digest image)) (lay_want old)

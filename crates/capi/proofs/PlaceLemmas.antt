@@ -50,7 +50,7 @@ module _ (old : Option SegmenterState) (text : List ℕ) (Rejected : List ℕ �
   place_for kept call.FullSegmenter rejected found = found
   place_for kept call.ShortBuffer rejected found = found
 
-  pub reports_placed : (answer : Result PathSize CallFault) (code : ℕ) → code ≡ result_code answer → IfErr answer (IsCallError old (λ _. Rejected text)) → IfErr answer (IsCallErrorPosition (IsPlaceIfBad text) before at)
+  pub reports_placed : (outcome : Result PathSize CallFault) (code : ℕ) → code ≡ result_code outcome → IfErr outcome (IsCallError old (λ _. Rejected text)) → IfErr outcome (IsCallErrorPosition (IsPlaceIfBad text) before at)
       → code ≢ 0 → PositionResult (IsCallError old (λ _. Rejected text)) (IsErrorPosition text) before at code
   reports_placed (Ok size) code is rejected found fails = absurd (fails is)
   reports_placed (Err fault) code is rejected found fails = record { fault = fault; is = rejected; reported = is; place = place_for old fault rejected found }

@@ -29,11 +29,11 @@ handle_result (Err fault) = Err (call.Segment fault)
 
 -- the session was called and is kept with its changes, and its result is the handle's result
 pub record IsCallOf {T : Type 0} (Calls : Session → Result T SegmentFault → Session → Type 0) (old : Session) (left : Option Session) (reported : Result T CallFault) : Type 0 where
-  pub answer : Result T SegmentFault
+  pub outcome : Result T SegmentFault
   pub new : Session
-  pub called : Calls old answer new
+  pub called : Calls old outcome new
   pub left_is : left ≡ Some new
-  pub reported_is : reported ≡ handle_result answer
+  pub reported_is : reported ≡ handle_result outcome
 
 -- the handle's session was called, or the handle is empty and the result is `EmptySegmenter`
 abbrev pub IsCalled : {T : Type 0} → (Session → Result T SegmentFault → Session → Type 0) → Option Session → Option Session → Result T CallFault → Type 0

@@ -22,8 +22,8 @@ impl Handle {
             self.old.slot.value self.new.slot.value result }
     {
         let mut session = self.take(alloc).ok_or(CallFault::EmptySegmenter)?;
-        let answer = call(&mut session);
+        let outcome = call(&mut session);
         self.put(session);
-        answer.map_err(CallFault::Segment)
+        outcome.map_err(CallFault::Segment)
     }
 }

@@ -32,10 +32,10 @@ fn code_number(code: &[u8]) -> u32
 }
 
 /// Returns the code of a result.
-pub fn code_of_result(answer: Result<(), CallFault>) -> u32
-    ensures code { result ≡ result_code answer }
+pub fn code_of_result(outcome: Result<(), CallFault>) -> u32
+    ensures code { result ≡ result_code outcome }
 {
-    match answer {
+    match outcome {
         Ok(()) => OK,
         Err(fault) => code_of(fault),
     }
@@ -78,12 +78,12 @@ fn segment_fault_number(fault: SegmentFault, number: u64) -> u64
 }
 
 /// Returns the code of a result, and stores the number of its error in `number` if it has one.
-pub fn result_with_number(answer: Result<(), CallFault>, number: &mut u64) -> u32
-    ensures code { result ≡ result_code answer }
-    ensures number { number.new ≡ result_number answer number.old }
+pub fn result_with_number(outcome: Result<(), CallFault>, number: &mut u64) -> u32
+    ensures code { result ≡ result_code outcome }
+    ensures number { number.new ≡ result_number outcome number.old }
 {
-    if let Err(CallFault::Segment(fault)) = answer {
+    if let Err(CallFault::Segment(fault)) = outcome {
         *number = segment_fault_number(fault, *number);
     }
-    code_of_result(answer)
+    code_of_result(outcome)
 }

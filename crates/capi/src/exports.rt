@@ -98,8 +98,8 @@ pub extern "C" fn kumquatsieve_segment(
         (reported_size count.old total.old) (reported_size count.new total.new)
         at.old at.new result }
 {
-    let answer = segmenter.call(alloc, |session| session.segment(Extent::Line, line));
-    result_with_size(answer, line, count, total, at)
+    let outcome = segmenter.call(alloc, |session| session.segment(Extent::Line, line));
+    result_with_size(outcome, line, count, total, at)
 }
 
 /// Segments `text` as one line. An LF in it is a character like any other. The outputs are those of
@@ -118,8 +118,8 @@ pub extern "C" fn kumquatsieve_segment_whole(
         (reported_size count.old total.old) (reported_size count.new total.new)
         at.old at.new result }
 {
-    let answer = segmenter.call(alloc, |session| session.segment(Extent::Text, text));
-    result_with_size(answer, text, count, total, at)
+    let outcome = segmenter.call(alloc, |session| session.segment(Extent::Text, text));
+    result_with_size(outcome, text, count, total, at)
 }
 
 /// Frees the segmenter of a handle. The handle is empty afterwards.

@@ -52,8 +52,8 @@ impl Handle {
         let Some(session) = self.take(alloc) else {
             return code_of(CallFault::EmptySegmenter);
         };
-        let answer = T::write(&session.segmenter, first, out, count);
+        let outcome = T::write(&session.segmenter, first, out, count);
         self.put(session);
-        code_of_result(answer.map_err(CallFault::Segment))
+        code_of_result(outcome.map_err(CallFault::Segment))
     }
 }

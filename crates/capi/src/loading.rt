@@ -77,9 +77,9 @@ pub fn add_trusted(
     ensures unchanged { OnErr result (segmenter_in segmenter.new ≡ segmenter_in segmenter.old) }
 {
     let mut session = segmenter.take(alloc).ok_or(CallFault::EmptySegmenter)?;
-    let answer = session.add_trusted_user(image);
+    let outcome = session.add_trusted_user(image);
     segmenter.put(session);
-    answer.map_err(CallFault::Segment)
+    outcome.map_err(CallFault::Segment)
 }
 
 /// Fills the empty handle `segmenter` with a segmenter that shares the dictionaries and the format of

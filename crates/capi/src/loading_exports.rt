@@ -57,8 +57,8 @@ pub extern "C" fn kumquatsieve_add_user_borrowed(
 {
     let image = ImageBytes::borrowed(BorrowedBytes::of(image));
     let digest = DigestTest::skipped_if(skip_digest);
-    let answer = segmenter.call(alloc, move |session| session.add_owned_user(image, digest));
-    result_with_number(answer, number)
+    let outcome = segmenter.call(alloc, move |session| session.add_owned_user(image, digest));
+    result_with_number(outcome, number)
 }
 
 /// Fills the empty handle `segmenter` with a segmenter for the image of a system dictionary in C's

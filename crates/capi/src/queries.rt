@@ -49,14 +49,14 @@ pub fn copy_to(bytes: &[u8], out: &mut [u8], needed: &mut usize) -> Result<(), C
 
 impl Session {
     /// Writes the result of a query to the session's buffer.
-    fn write(&mut self, asked: Query) -> Result<(), SegmentFault>
+    fn write(&mut self, query: Query) -> Result<(), SegmentFault>
         ensures written { OnOk result
-            (IsQueryResult asked self.old.segmenter self.new.output.items) }
-        ensures rejected { IfErr result (IsQueryError asked self.old.segmenter) }
+            (IsQueryResult query self.old.segmenter self.new.output.items) }
+        ensures rejected { IfErr result (IsQueryError query self.old.segmenter) }
         ensures segmenter { self.new.segmenter ≡ self.old.segmenter }
     {
         self.output.clear();
-        match asked {
+        match query {
             Query::Path => self.segmenter.print(&mut self.output),
             Query::Features => self.segmenter.append_features(&mut self.output),
             Query::EntryFeature(origin) => self
@@ -67,13 +67,13 @@ impl Session {
 
     /// Writes the result of a query to the session's buffer, and returns pointer and length of the
     /// buffer.
-    pub fn borrow(&mut self, asked: Query) -> Result<BytesForC, SegmentFault>
+    pub fn borrow(&mut self, query: Query) -> Result<BytesForC, SegmentFault>
         ensures borrowed { IfOk result
-            (λ borrowed. IsBorrowed (IsQueryResult asked) borrowed self.new) }
-        ensures rejected { IfErr result (IsQueryError asked self.old.segmenter) }
+            (λ borrowed. IsBorrowed (IsQueryResult query) borrowed self.new) }
+        ensures rejected { IfErr result (IsQueryError query self.old.segmenter) }
         ensures segmenter { self.new.segmenter ≡ self.old.segmenter }
     {
-        self.write(asked)?;
+        self.write(query)?;
         Ok(self.borrowed())
     }
 
@@ -91,15 +91,15 @@ impl Session {
 /// Returns the code of a result, and stores pointer and length of the borrowed bytes in `at` and
 /// `count`. They stay unchanged on an error.
 pub fn result_with_bytes(
-    answer: Result<BytesForC, CallFault>,
+    outcome: Result<BytesForC, CallFault>,
     at: &mut *const u8,
     count: &mut usize,
 ) -> u32
-    ensures code { result ≡ result_code answer }
-    ensures place { IfOk answer (λ borrowed. borrowed ≡ borrowed_at at.new count.new) }
-    ensures unset { OnErr answer (borrowed_at at.new count.new ≡ borrowed_at at.old count.old) }
+    ensures code { result ≡ result_code outcome }
+    ensures place { IfOk outcome (λ borrowed. borrowed ≡ borrowed_at at.new count.new) }
+    ensures unset { OnErr outcome (borrowed_at at.new count.new ≡ borrowed_at at.old count.old) }
 {
-    match answer {
+    match outcome {
         Ok(
             BytesForC {
                 at: place,

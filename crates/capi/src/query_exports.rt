@@ -28,8 +28,8 @@ pub extern "C" fn kumquatsieve_print(
         (IsQueryResult PathText) (IsQueryError PathText)
         (borrowed_at text.old count.old) (borrowed_at text.new count.new) result }
 {
-    let answer = segmenter.call(alloc, |session| session.borrow(Query::Path));
-    result_with_bytes(answer, text, count)
+    let outcome = segmenter.call(alloc, |session| session.borrow(Query::Path));
+    result_with_bytes(outcome, text, count)
 }
 
 /// Segments the lines of `text`, and returns their output in the format and the number of lines.
@@ -70,8 +70,8 @@ pub extern "C" fn kumquatsieve_features(
         (IsQueryResult AllFeatures) (IsQueryError AllFeatures)
         (borrowed_at features.old count.old) (borrowed_at features.new count.new) result }
 {
-    let answer = segmenter.call(alloc, |session| session.borrow(Query::Features));
-    result_with_bytes(answer, features, count)
+    let outcome = segmenter.call(alloc, |session| session.borrow(Query::Features));
+    result_with_bytes(outcome, features, count)
 }
 
 /// Returns the feature of an entry, by the fields `known`, `dictionary` and `token` of a `CWord`.
@@ -92,8 +92,8 @@ pub extern "C" fn kumquatsieve_entry_feature(
         (borrowed_at feature.old count.old) (borrowed_at feature.new count.new) result }
 {
     let origin = numbered_entry(known, dictionary, token);
-    let answer = segmenter.call(alloc, |session| session.borrow(Query::EntryFeature(origin)));
-    result_with_bytes(answer, feature, count)
+    let outcome = segmenter.call(alloc, |session| session.borrow(Query::EntryFeature(origin)));
+    result_with_bytes(outcome, feature, count)
 }
 
 /// Returns the entry with these fields of a `CWord`.

@@ -61,20 +61,20 @@ impl Session {
 /// Returns the code of a result. On success stores the size of the path in `count` and `total`, on
 /// an error its position in `text`, if it has one, in `at`.
 pub fn result_with_size(
-    answer: Result<PathSize, CallFault>,
+    outcome: Result<PathSize, CallFault>,
     text: &[u8],
     count: &mut usize,
     total: &mut i64,
     at: &mut usize,
 ) -> u32
-    ensures code { result ≡ result_code answer }
-    ensures size { IfOk answer (λ size. size ≡ reported_size count.new total.new) }
-    ensures size_unset { OnErr answer
+    ensures code { result ≡ result_code outcome }
+    ensures size { IfOk outcome (λ size. size ≡ reported_size count.new total.new) }
+    ensures size_unset { OnErr outcome
         (reported_size count.new total.new ≡ reported_size count.old total.old) }
-    ensures place { IfErr answer (IsCallErrorPosition (IsPlaceIfBad text.now) at.old at.new) }
-    ensures at_unset { OnOk answer (at.new ≡ at.old) }
+    ensures place { IfErr outcome (IsCallErrorPosition (IsPlaceIfBad text.now) at.old at.new) }
+    ensures at_unset { OnOk outcome (at.new ≡ at.old) }
 {
-    match answer {
+    match outcome {
         Ok(size) => {
             *count = size.count;
             *total = size.total;

@@ -82,21 +82,21 @@ fn set_texts(
     let unk = text_of(texts.unk, 1, part, at)?;
     let bos = text_of(texts.bos, 2, part, at)?;
     let eos = text_of(texts.eos, 3, part, at)?;
-    let answer = segmenter.set_format(node, Some(unk), bos, eos);
+    let outcome = segmenter.set_format(node, Some(unk), bos, eos);
     if let Err(
         SegmentFault::Format(
             FormatFault::Bad {
-                part: refused,
+                part: invalid,
                 at: place,
                 ..
             },
         ),
-    ) = answer
+    ) = outcome
     {
-        *part = number_of(refused);
+        *part = number_of(invalid);
         *at = place;
     }
-    answer
+    outcome
 }
 
 /// Sets the format of a handle's segmenter.
@@ -118,9 +118,9 @@ pub fn set_format(
     ensures unchanged { OnErr result (segmenter_in segmenter.new ≡ segmenter_in segmenter.old) }
 {
     let mut session = segmenter.take(alloc).ok_or(CallFault::EmptySegmenter)?;
-    let answer = set_texts(&mut session.segmenter, texts, part, at);
+    let outcome = set_texts(&mut session.segmenter, texts, part, at);
     segmenter.put(session);
-    answer.map_err(CallFault::Segment)
+    outcome.map_err(CallFault::Segment)
 }
 
 impl Session {

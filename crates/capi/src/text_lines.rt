@@ -56,11 +56,11 @@ impl Handle {
         ensures segmenter { segmenter_in self.new ≡ clears (segmenter_in self.old) }
     {
         let mut session = self.take(alloc).ok_or(CallFault::EmptySegmenter)?;
-        let answer = session.print_lines(text, lines);
+        let outcome = session.print_lines(text, lines);
         let BytesForC { at, count: length } = session.borrowed();
         *out = at;
         *count = length;
         self.put(session);
-        answer.map_err(CallFault::Segment)
+        outcome.map_err(CallFault::Segment)
     }
 }

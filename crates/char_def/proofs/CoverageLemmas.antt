@@ -31,7 +31,7 @@ pub both_covered : (ranges earlier later : List MappedRange) (below above steps 
     → AreOverlaid below above steps → IsCoverage (map range_categories_by ranges) steps
 both_covered ranges earlier later below above steps is b a o = record {
   rising = o.rising;
-  says = λ code. o.says code ∙ ap (λ (x : Option CharInfo). option_or x (info_by below code)) (a.says code) ∙ ap (λ (x : Option CharInfo). option_or (last_categories (map range_categories_by later) code) x) (b.says code)
+  agrees = λ code. o.agrees code ∙ ap (λ (x : Option CharInfo). option_or x (info_by below code)) (a.agrees code) ∙ ap (λ (x : Option CharInfo). option_or (last_categories (map range_categories_by later) code) x) (b.agrees code)
       ∙ sym (last_categories-append (map range_categories_by earlier) (map range_categories_by later) code) ∙ ap (λ (l : List RangeCategories). last_categories l code) (sym (map-append range_categories_by earlier later))
       ∙ ap (λ (l : List MappedRange). last_categories (map range_categories_by l) code) (sym is);
 }

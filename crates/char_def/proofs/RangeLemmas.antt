@@ -109,7 +109,7 @@ abbrev so_far : List NamedCategory → Option CharInfo → List CategoryStep →
 so_far categories before steps = record { categories = categories; steps = let s : CategoryStep = record { first = 0; info = before } in s ∷ steps }
 
 -- the ranges of these steps; the last of them applies after all the steps
-pub record AreBegun (categories : List NamedCategory) (before : Option CharInfo) (steps : List CategoryStep) (ranges : List CategoryRange) : Type 0 where
+pub record AreStarted (categories : List NamedCategory) (before : Option CharInfo) (steps : List CategoryStep) (ranges : List CategoryRange) : Type 0 where
   pub formed : AreRangesOf (so_far categories before steps) ranges
   pub held : (code : ℕ) → code ≤ code_point_max → EndBefore (code + 1) steps → table_info (so_far categories before steps) code ≡ last_info ranges
   pub ends : (end : ℕ) → 1 ≤ end → EndBefore end steps → (last ranges).first < end
@@ -148,16 +148,16 @@ same_info a b = elim (cases_eq a.bits b.bits) [
 ]
 
 -- one more step that starts no range: it is above all code points, or changes nothing
-started_above : (categories : List NamedCategory) (before : Option CharInfo) (steps : List CategoryStep) (s : CategoryStep) (ranges : List CategoryRange) → AreBegun categories before steps ranges → code_point_max < s.first
-    → AreBegun categories before (steps ++ s ∷ []) ranges
+started_above : (categories : List NamedCategory) (before : Option CharInfo) (steps : List CategoryStep) (s : CategoryStep) (ranges : List CategoryRange) → AreStarted categories before steps ranges → code_point_max < s.first
+    → AreStarted categories before (steps ++ s ∷ []) ranges
 started_above categories before steps s ranges b above = record {
   formed = ranges_same (so_far categories before steps) (so_far categories before (steps ++ s ∷ [])) ranges (λ code h. sym (stated_before categories before steps s code (omega (arith, h, above)))) b.formed;
   held = λ code h e. let p = end_parts (code + 1) steps s e in absurd (omega (arith, h, above, p.1));
   ends = λ end some e. b.ends end some (end_parts end steps s e).0;
 }
 
-started_same : (categories : List NamedCategory) (before : Option CharInfo) (steps : List CategoryStep) (s : CategoryStep) (ranges : List CategoryRange) → AreBegun categories before steps ranges → EndBefore s.first steps
-    → last_info ranges ≡ info_or (default_info categories) s.info → AreBegun categories before (steps ++ s ∷ []) ranges
+started_same : (categories : List NamedCategory) (before : Option CharInfo) (steps : List CategoryStep) (s : CategoryStep) (ranges : List CategoryRange) → AreStarted categories before steps ranges → EndBefore s.first steps
+    → last_info ranges ≡ info_or (default_info categories) s.info → AreStarted categories before (steps ++ s ∷ []) ranges
 started_same categories before steps s ranges b ends same = record {
   formed = ranges_same (so_far categories before steps) (so_far categories before (steps ++ s ∷ [])) ranges (λ code h. elim (cases_lt code s.first) [
     | inl low ↦ sym (stated_before categories before steps s code low)
@@ -168,7 +168,7 @@ started_same categories before steps s ranges b ends same = record {
 }
 
 -- the last range starts before one more step that changes something
-last_before : (categories : List NamedCategory) (before : Option CharInfo) (steps : List CategoryStep) (s : CategoryStep) (ranges : List CategoryRange) → AreBegun categories before steps ranges → EndBefore s.first steps
+last_before : (categories : List NamedCategory) (before : Option CharInfo) (steps : List CategoryStep) (s : CategoryStep) (ranges : List CategoryRange) → AreStarted categories before steps ranges → EndBefore s.first steps
     → (s.first ≡ 0 → before ≡ s.info) → last_info ranges ≢ info_or (default_info categories) s.info → (last ranges).first < s.first
 last_before categories before steps s ranges b ends at_zero new = elim (cases_lt 0 s.first) [
   | inl some ↦ b.ends s.first (omega (arith, some)) ends
@@ -180,9 +180,9 @@ last_before categories before steps s ranges b ends at_zero new = elim (cases_lt
       ∙ ap (λ (ss : List CategoryStep). info_or (default_info categories) (info_from before ss 0)) empty ∙ ap (info_or (default_info categories)) (at_zero zero_is)))
 ]
 
-started_new : (categories : List NamedCategory) (before : Option CharInfo) (steps : List CategoryStep) (s : CategoryStep) (ranges : List CategoryRange) → AreBegun categories before steps ranges → EndBefore s.first steps
+started_new : (categories : List NamedCategory) (before : Option CharInfo) (steps : List CategoryStep) (s : CategoryStep) (ranges : List CategoryRange) → AreStarted categories before steps ranges → EndBefore s.first steps
     → s.first ≤ code_point_max → (s.first ≡ 0 → before ≡ s.info) → last_info ranges ≢ info_or (default_info categories) s.info
-    → AreBegun categories before (steps ++ s ∷ []) (ranges ++ record { first = s.first; info = info_or (default_info categories) s.info } ∷ [])
+    → AreStarted categories before (steps ++ s ∷ []) (ranges ++ record { first = s.first; info = info_or (default_info categories) s.info } ∷ [])
 started_new categories before steps s ranges b ends within at_zero new =
     let r : CategoryRange = record { first = s.first; info = info_or (default_info categories) s.info } in
     record {
@@ -224,12 +224,12 @@ unwrapped None otherwise = refl
 unwrapped (Some info) otherwise = refl
 
 pub ranges_started : (categories : List NamedCategory) (steps : List CategoryStep) (ranges : List CategoryRange) (info : CharInfo) → info ≡ info_or (default_info categories) (info_by steps 0)
-    → ranges ≡ record { first = 0; info = info } ∷ [] → AreBegun categories (info_by steps 0) [] ranges
+    → ranges ≡ record { first = 0; info = info } ∷ [] → AreStarted categories (info_by steps 0) [] ranges
 ranges_started categories steps ranges info is ranges_are =
     let r : CategoryRange = record { first = 0; info = info } in
     let reported : (code : ℕ) → table_info (so_far categories (info_by steps 0) []) code ≡ info = λ code. info_so_far categories (info_by steps 0) [] code ∙ sym is in
     let only : (i : ℕ) → i < 1 → range_by (r ∷ []) i ≡ r = λ i h. ap (λ (k : ℕ). range_by (r ∷ []) k) (let e : i ≡ 0 = omega (arith, h) in e) in
-    subst (AreBegun categories (info_by steps 0) []) (sym ranges_are) (record {
+    subst (AreStarted categories (info_by steps 0) []) (sym ranges_are) (record {
       formed = record {
         some = omega arith;
         from_zero = refl;
@@ -244,10 +244,10 @@ ranges_started categories steps ranges info is ranges_are =
     })
 
 pub ranges_step : (categories : List NamedCategory) (steps : List CategoryStep) (i : ℕ) (d : CategoryStep) (ranges new : List CategoryRange) (info : CharInfo) → AreRising 0 steps → i < length steps
-    → AreBegun categories (info_by steps 0) (take i steps) ranges → info ≡ unwrap_or (get_or steps i d).info (default_info categories)
+    → AreStarted categories (info_by steps 0) (take i steps) ranges → info ≡ unwrap_or (get_or steps i d).info (default_info categories)
     → (last_info ranges ≡ info → new ≡ ranges) → (code_point_max < (get_or steps i d).first → new ≡ ranges)
     → ((get_or steps i d).first ≤ code_point_max → last_info ranges ≢ info → new ≡ ranges ++ record { first = (get_or steps i d).first; info = info } ∷ [])
-    → AreBegun categories (info_by steps 0) (take (i + 1) steps) new
+    → AreStarted categories (info_by steps 0) (take (i + 1) steps) new
 ranges_step categories steps i d ranges new info rise in' b info_is same above added =
     let s = get_or steps i d in
     let before = info_by steps 0 in
@@ -263,7 +263,7 @@ ranges_step categories steps i d ranges new info rise in' b info_is same above a
     ])
 
 pub ranges_done : (table : CharCategories) (categories : List NamedCategory) (steps : List CategoryStep) (i : ℕ) (ranges : List CategoryRange) → table ≡ record { categories = categories; steps = steps } → length steps ≤ i
-    → AreBegun categories (info_by steps 0) (take i steps) ranges → AreRangesOf table ranges
+    → AreStarted categories (info_by steps 0) (take i steps) ranges → AreRangesOf table ranges
 ranges_done table categories steps i ranges is all b =
     rw is (ranges_same (so_far categories (info_by steps 0) steps) (record { categories = categories; steps = steps }) ranges
     (λ code h. info_so_far categories (info_by steps 0) steps code ∙ ap (info_or (default_info categories)) (zero_before steps code))

@@ -99,7 +99,7 @@ table_of : (lines : List (ℕ × List ℕ)) (categories : List NamedCategory) (m
     → map range_categories_by mapped ≡ map (range_categories categories) (source_from lines).mappings → IsCoverage (map range_categories_by mapped) steps → IsTableOf (source_from lines) (record { categories = categories; steps = steps })
 table_of lines categories mapped steps are mappings_are covered = record {
   categories = are;
-  infos = λ code. ap (info_or (default_info categories)) (covered.says code ∙ ap (λ (l : List RangeCategories). last_categories l code) mappings_are) ∙ stated_last categories (source_from lines).mappings code
+  infos = λ code. ap (info_or (default_info categories)) (covered.agrees code ∙ ap (λ (l : List RangeCategories). last_categories l code) mappings_are) ∙ stated_last categories (source_from lines).mappings code
       ∙ ap (λ (cs : List NamedCategory). option_map_or (λ (m : Mapping). info_of_names cs m.first m.others) (find (covers code) (reverse (source_from lines).mappings)) (info_of_names cs default_name [])) are;
 }
 

@@ -32,4 +32,4 @@ last_categories list code = option_map (λ (s : RangeCategories). s.info) (find 
 -- the steps give each code point the categories of the last range that covers it
 pub record IsCoverage (list : List RangeCategories) (steps : List CategoryStep) : Type 0 where
   pub rising : AreRising 0 steps
-  pub says : (code : ℕ) → info_by steps code ≡ last_categories list code
+  pub agrees : (code : ℕ) → info_by steps code ≡ last_categories list code

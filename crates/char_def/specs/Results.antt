@@ -30,8 +30,8 @@ IsNumberOf categories name found = MatchOption found (is_defined categories name
 
 -- the set of only the category with this name, or an error of this kind if it is not defined
 abbrev pub IsInfoResult : List NamedCategory → List ℕ → SourceKind → Result CharInfo SourceFault → Type 0
-IsInfoResult categories name kind answer =
-    MatchResult answer (λ info. (unless_defined categories name kind ≡ None) × (info ≡ info_of_names categories name []))
+IsInfoResult categories name kind outcome =
+    MatchResult outcome (λ info. (unless_defined categories name kind ≡ None) × (info ≡ info_of_names categories name []))
     (λ fault. unless_defined categories name kind ≡ Some fault)
 
 -- the set of the categories with these names, if all are defined

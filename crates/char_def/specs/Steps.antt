@@ -28,4 +28,4 @@ StartAt first (step ∷ steps) = step.first ≡ first
 -- not cover
 pub record AreOverlaid (below above steps : List CategoryStep) : Type 0 where
   pub rising : AreRising 0 steps
-  pub says : (code : ℕ) → info_by steps code ≡ option_or (info_by above code) (info_by below code)
+  pub agrees : (code : ℕ) → info_by steps code ≡ option_or (info_by above code) (info_by below code)

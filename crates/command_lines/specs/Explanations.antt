@@ -5,4 +5,4 @@ use Rattle.command_lines.specs.declared.explanation.Explanation.{Explanation}
 
 -- the word is the code or the name of the error, in upper or lower case
 abbrev pub IsCalled : Explanation → List ℕ → Type 0
-IsCalled one asked = IsSameWord one.code.now asked ⊎ IsSameWord one.name.now asked
+IsCalled one code_or_name = IsSameWord one.code.now code_or_name ⊎ IsSameWord one.name.now code_or_name

@@ -45,23 +45,23 @@ pub(crate) fn print_explanation(
         return Ok(());
     }
     match matches.get_str(EXPLAIN_ID) {
-        Some(asked) => Err(answer(alloc, program, asked, texts)?),
+        Some(code_or_name) => Err(explanation_of(alloc, program, code_or_name, texts)?),
         None => Err(OptionsFault::Help(codes(alloc, texts.explanations)?)),
     }
 }
 
-/// Returns the explanation of the code or name `asked`, or the error that there is none.
-fn answer(
+/// Returns the explanation of `code_or_name`, or the error that there is none.
+fn explanation_of(
     alloc: Global,
     program: &str,
-    asked: &str,
+    code_or_name: &str,
     texts: &Texts<'_>,
 ) -> Result<OptionsFault, AllocError> {
-    let text = explained(alloc, texts.explanations, asked)?;
+    let text = explained(alloc, texts.explanations, code_or_name)?;
     if !text.is_empty() {
         return Ok(OptionsFault::Help(text));
     }
-    let asked = EscapedLine(asked);
-    let reported = format!(in alloc; "no error has the code or name '{asked}'")?;
-    Ok(OptionsFault::wrong(alloc, program, reported.as_str()))
+    let code_or_name = EscapedLine(code_or_name);
+    let reported = format!(in alloc; "no error has the code or name '{code_or_name}'")?;
+    Ok(OptionsFault::usage_error(alloc, program, reported.as_str()))
 }

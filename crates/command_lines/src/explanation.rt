@@ -21,11 +21,11 @@ pub struct Explanation {
 pub(crate) fn explained(
     alloc: Global,
     subjects: &[&[Explanation]],
-    asked: &str,
+    code_or_name: &str,
 ) -> Result<String, AllocError> {
     let mut text = String::new(alloc);
     for subject in subjects {
-        explain(alloc, *subject, asked, &mut text)?;
+        explain(alloc, *subject, code_or_name, &mut text)?;
     }
     Ok(text)
 }
@@ -39,16 +39,15 @@ pub(crate) fn codes(alloc: Global, subjects: &[&[Explanation]]) -> Result<String
     Ok(text)
 }
 
-/// Appends the explanations of one subject that have the code or name `asked`, separated by blank
-/// lines.
+/// Appends the explanations of one subject that have this code or name, separated by blank lines.
 fn explain(
     alloc: Global,
     subject: &[Explanation],
-    asked: &str,
+    code_or_name: &str,
     text: &mut String,
 ) -> Result<(), AllocError> {
     for one in subject {
-        if !one.is_called(asked) {
+        if !one.is_called(code_or_name) {
             continue;
         }
         if !text.is_empty() {
@@ -70,11 +69,11 @@ fn list(alloc: Global, subject: &[Explanation], text: &mut String) -> Result<(),
 impl Explanation {
     ghost use Rattle.command_lines.specs.Explanations.{IsCalled};
 
-    /// Returns whether `asked` is the code or the name, in upper or lower case.
-    fn is_called(&self, asked: &str) -> bool
-        ensures { IsTrue result ↔ IsCalled self.now asked.now }
+    /// Returns whether `code_or_name` is the code or the name, in upper or lower case.
+    fn is_called(&self, code_or_name: &str) -> bool
+        ensures { IsTrue result ↔ IsCalled self.now code_or_name.now }
     {
-        self.code.eq_ignore_ascii_case(asked) || self.name.eq_ignore_ascii_case(asked)
+        self.code.eq_ignore_ascii_case(code_or_name) || self.name.eq_ignore_ascii_case(code_or_name)
     }
 }
 

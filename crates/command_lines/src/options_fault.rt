@@ -52,7 +52,7 @@ impl OptionsFault {
     }
 
     /// Returns the error of an invalid command line with this message.
-    pub fn wrong(alloc: Global, program: &str, message: &str) -> OptionsFault {
+    pub fn usage_error(alloc: Global, program: &str, message: &str) -> OptionsFault {
         bad(format!(in alloc; "{program}: {message}\n\nFor more information, try '--help'.\n"))
     }
 
@@ -84,7 +84,7 @@ impl OptionsFault {
     /// Replaces the parser's message on an invalid command line by the hint `instead`.
     pub(crate) fn with_hint(self, alloc: Global, program: &str, instead: &str) -> OptionsFault {
         match self {
-            OptionsFault::Bad(_) => OptionsFault::wrong(alloc, program, instead),
+            OptionsFault::Bad(_) => OptionsFault::usage_error(alloc, program, instead),
             other => other,
         }
     }

@@ -124,7 +124,7 @@ pub(crate) fn needed_text(
 ) -> Result<String, OptionsFault> {
     match text_of(alloc, matches, id)? {
         Some(text) => Ok(text),
-        None => Err(OptionsFault::wrong(alloc, program, "a required option is missing")),
+        None => Err(OptionsFault::usage_error(alloc, program, "a required option is missing")),
     }
 }
 

@@ -56,7 +56,7 @@ undoubled before (c ∷ cs) tail end u = elim (cases_eq c quote) [
 before_comma : (text : List ℕ) → IsUtf8 text → IsUtf8 (before_first is_comma text)
 before_comma text u = elim (cases_Bool (list_any is_comma text)) [
   | inl found ↦
-      let cut : IsSplit is_comma text (before_first is_comma text) (after_first is_comma text) = record { found = found; before_is = refl; behind_is = refl } in
+      let cut : IsSplit is_comma text (before_first is_comma text) (after_first is_comma text) = record { found = found; before_is = refl; following_is = refl } in
       let parts = cut_parts comma text (before_first is_comma text) (after_first is_comma text) cut in
       (around (before_first is_comma text) (after_first is_comma text) comma (omega arith) (subst IsUtf8 parts.0 u)).0
   | inr none ↦ subst IsUtf8 (uncut is_comma text none) u

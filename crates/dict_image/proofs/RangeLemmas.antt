@@ -47,11 +47,11 @@ found_below ranges code i (suc n) order is within =
     let rises = begins_after ranges (suc i) n order (omega (arith, within)) in
     let same = ap (λ (k : ℕ). (range_at ranges k).first) f in
     omega (arith, next, rises, same) in
-    let not_begun : leb (range_at ranges last).first code ≡ false = lt-leb (range_at ranges last).first code later in
+    let not_started : leb (range_at ranges last).first code ≡ false = lt-leb (range_at ranges last).first code later in
     let rest = find (λ (range : StoredRange). leb range.first code) (reverse (map (range_at ranges) (range_with_len 0 last))) in
     ap (λ (rs : List StoredRange). find (λ (range : StoredRange). leb range.first code) (reverse rs)) all
     ∙ ap (find (λ (range : StoredRange). leb range.first code)) (reverse-append (map (range_at ranges) (range_with_len 0 last)) (range_at ranges last ∷ []))
-    ∙ ap (λ (b : Bool). cond b (Some (range_at ranges last)) rest) not_begun
+    ∙ ap (λ (b : Bool). cond b (Some (range_at ranges last)) rest) not_started
     ∙ found_below ranges code i n order is (omega (arith, within))
 
 -- the categories of a code point are those of that range

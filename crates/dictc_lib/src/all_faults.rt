@@ -61,7 +61,7 @@ fn print_each(
     reported: &mut Vec<Fault>,
 ) {
     let mut fault = first;
-    for _told in 1..FAULTS_MAX {
+    for _printed in 1..FAULTS_MAX {
         push_if_new(reported, print_fault(rt, reporter, lexicons, fault));
         match fault_without(rt.alloc(), context, lexicons, fault) {
             Ok(Some(next)) => fault = next,

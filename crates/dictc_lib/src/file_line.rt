@@ -73,7 +73,7 @@ fn up_to_feed(rest: &[u8]) -> &[u8]
     ensures { IsUpToFeed rest.now result.now }
 {
     match split_first(rest, b'\n') {
-        Some((line, _behind)) => line,
+        Some((line, _after)) => line,
         None => rest,
     }
 }

@@ -17,9 +17,9 @@ pub fn read_command(
 ) -> Result<Command, OptionsFault> {
     let mut command = parse_command(rt.alloc(), words, texts)?;
     find_images(rt, &mut command)?;
-    if let Command::Image(parse_command) = &command {
-        if overwrites_input(rt, parse_command) {
-            return Err(overwritten_input(rt.alloc(), parse_command.out.as_str()));
+    if let Command::Image(options) = &command {
+        if overwrites_input(rt, options) {
+            return Err(overwritten_input(rt.alloc(), options.out.as_str()));
         }
     }
     Ok(command)
@@ -28,14 +28,14 @@ pub fn read_command(
 /// Replaces the name of each image that is read by its path.
 fn find_images(rt: &HostRuntime, command: &mut Command) -> Result<(), OptionsFault> {
     match command {
-        Command::Image(parse_command) => {
-            if let Base::System { dic, .. } = &mut parse_command.base {
+        Command::Image(options) => {
+            if let Base::System { dic, .. } = &mut options.base {
                 *dic = image_path(rt, dic.as_str())?;
             }
         }
-        Command::Ids(parse_command) => {
-            parse_command.dic = image_path(rt, parse_command.dic.as_str())?;
-            for user in &mut parse_command.users {
+        Command::Ids(options) => {
+            options.dic = image_path(rt, options.dic.as_str())?;
+            for user in &mut options.users {
                 *user = image_path(rt, user.as_str())?;
             }
         }
@@ -44,19 +44,15 @@ fn find_images(rt: &HostRuntime, command: &mut Command) -> Result<(), OptionsFau
 }
 
 /// Returns whether the output would replace an input file.
-fn overwrites_input(rt: &HostRuntime, parse_command: &Options) -> bool {
-    let out = parse_command.out.as_str();
-    let is_base = match &parse_command.base {
+fn overwrites_input(rt: &HostRuntime, options: &Options) -> bool {
+    let out = options.out.as_str();
+    let is_base = match &options.base {
         Base::Definitions { matrix, chars, unk } => {
             is_same(rt, matrix, out) || is_same(rt, chars, out) || is_same(rt, unk, out)
         }
         Base::System { dic, .. } => is_same(rt, dic, out),
     };
-    is_base
-        || parse_command
-            .lexicons
-            .iter()
-            .any(|path| is_same(rt, path, out))
+    is_base || options.lexicons.iter().any(|path| is_same(rt, path, out))
 }
 
 /// Returns the error of a command line whose output path is an input file.

@@ -65,7 +65,7 @@ fn compile_lexicons(
 {
     let texts = match texts(rt.alloc(), files) {
         Ok(texts) => texts,
-        Err(refused) => return Err(CompileUserFault::Source(SourceFault::from(refused))),
+        Err(error) => return Err(CompileUserFault::Source(SourceFault::from(error))),
     };
     let mut progress = ProgressReporter::new(reporter, files);
     let compiled = compile_user_watched(rt.alloc(), system, &texts, &mut progress)?;

@@ -53,7 +53,7 @@ fn mecab_directory(alloc: Global, dir: &str) -> OptionsFault {
         "{dir} is a MeCab dictionary, not an image: compile its sources with 'kumquatsieve-import SOURCES IMG', and use that image with -d"
     );
     match message {
-        Ok(message) => OptionsFault::wrong(alloc, PROGRAM, message.as_str()),
+        Ok(message) => OptionsFault::usage_error(alloc, PROGRAM, message.as_str()),
         Err(_) => OptionsFault::Memory,
     }
 }

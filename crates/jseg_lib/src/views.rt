@@ -64,16 +64,16 @@ pub fn print_views<R: TextIn, W: TextOut>(
                 dictionaries,
                 format,
             };
-            let mut kept = LatticeBuffers::new(alloc);
-            Ok(run_over(alloc, &printer, &mut kept, reader, writer, READS_MAX)?)
+            let mut buffers = LatticeBuffers::new(alloc);
+            Ok(run_over(alloc, &printer, &mut buffers, reader, writer, READS_MAX)?)
         }
         View::Why => {
             let printer = WhyPrinter {
                 alloc,
                 dictionaries,
             };
-            let mut kept = LineBuffers::new(alloc);
-            Ok(run_over(alloc, &printer, &mut kept, reader, writer, READS_MAX)?)
+            let mut buffers = LineBuffers::new(alloc);
+            Ok(run_over(alloc, &printer, &mut buffers, reader, writer, READS_MAX)?)
         }
     }
 }

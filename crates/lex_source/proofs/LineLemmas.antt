@@ -39,7 +39,7 @@ cut_lines bytes before following line cut is =
     let in' : position_or_len is_line_feed bytes < length bytes = any_within is_line_feed bytes cut.found in
     let e : slice_split is_line_feed bytes ≡ before ∷ slice_split is_line_feed following =
     slice_split_first is_line_feed bytes 0 in' ∙ sym (ap (λ (xs : List ℕ). xs ∷ slice_split is_line_feed (after_first is_line_feed bytes)) cut.before_is)
-    ∙ sym (ap (λ (xs : List ℕ). before ∷ slice_split is_line_feed xs) cut.behind_is) in
+    ∙ sym (ap (λ (xs : List ℕ). before ∷ slice_split is_line_feed xs) cut.following_is) in
     let p : pieces bytes ≡ before ∷ pieces following = ap without_last_empty e ∙ before_pieces before (slice_split is_line_feed following) (split_pieces is_line_feed following) in
     ap (map without_return) p ∙ ap (λ (l : List ℕ). l ∷ source_lines following) (sym is)
 

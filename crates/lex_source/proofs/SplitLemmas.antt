@@ -19,14 +19,14 @@ not_found test bytes none = list_any_none test bytes (λ k d in'.
 
 pub cut_around : (test : ℕ → Bool) (bytes before following : List ℕ) (at : ℕ) → NoneBefore (Passes test bytes) 0 (length bytes) at → Passes test bytes at
     → before ≡ take at bytes → following ≡ drop (at + 1) bytes → IsSplit test bytes before following
-cut_around test bytes before following at none found before_is behind_is =
+cut_around test bytes before following at none found before_is following_is =
     let in' : at < length bytes = none.high in
     let is : position_or_len test bytes ≡ at =
     position_or_len_is test bytes at 0 (omega arith) (λ k low. false_from_ne_true (test (slice_index bytes k)) (none.before k (omega arith) low)) (λ _. found) in
     record {
       found = list_any_at test bytes at 0 in' found;
       before_is = before_is ∙ ap (λ (n : ℕ). take n bytes) (sym is);
-      behind_is = behind_is ∙ ap (λ (n : ℕ). drop (n + 1) bytes) (sym is);
+      following_is = following_is ∙ ap (λ (n : ℕ). drop (n + 1) bytes) (sym is);
     }
 
 pub cut_at : (test : ℕ → Bool) (bytes : List ℕ) (at : ℕ) → NoneBefore (Passes test bytes) 0 (length bytes) at → Passes test bytes at
@@ -39,9 +39,9 @@ not_found_text test text bytes is none = ap (list_any test) (sym is) ∙ not_fou
 
 pub cut_text : (test : ℕ → Bool) (text bytes before following : List ℕ) (at : ℕ) → bytes ≡ text → NoneBefore (Passes test bytes) 0 (length bytes) at → Passes test bytes at
     → before ≡ take at text → following ≡ drop (at + 1) text → IsSplit test text before following
-cut_text test text bytes before following at is none found before_is behind_is =
+cut_text test text bytes before following at is none found before_is following_is =
     subst (λ (xs : List ℕ). IsSplit test xs before following) is
-    (cut_around test bytes before following at none found (before_is ∙ ap (λ (xs : List ℕ). take at xs) (sym is)) (behind_is ∙ ap (λ (xs : List ℕ). drop (at + 1) xs) (sym is)))
+    (cut_around test bytes before following at none found (before_is ∙ ap (λ (xs : List ℕ). take at xs) (sym is)) (following_is ∙ ap (λ (xs : List ℕ). drop (at + 1) xs) (sym is)))
 
 -- a text may be split after the blanks that it starts with
 pub after_blanks : (text : List ℕ) (n : ℕ) → IsUtf8 text → n ≡ prefix_len is_blank text → 0 < n → IsCharBoundary text n
@@ -88,7 +88,7 @@ cut_parts byte text before following cut =
     let here : get_or text (position_or_len test text) 0 ≡ byte = eqb-true (get_or text (position_or_len test text) 0) byte (passes_at_first test text 0 within) in
     let parts : text ≡ before_first test text ++ (get_or text (position_or_len test text) 0 ∷ after_first test text) = split_at_first test text 0 within in (
       parts ∙ ap (λ (b : ℕ). before_first test text ++ b ∷ after_first test text) here
-          ∙ sym (ap (λ (xs : List ℕ). xs ++ byte ∷ after_first test text) cut.before_is) ∙ sym (ap (λ (xs : List ℕ). before ++ byte ∷ xs) cut.behind_is),
+          ∙ sym (ap (λ (xs : List ℕ). xs ++ byte ∷ after_first test text) cut.before_is) ∙ sym (ap (λ (xs : List ℕ). before ++ byte ∷ xs) cut.following_is),
       ap (list_any test) cut.before_is ∙ list_any_none test (before_first test text) (λ k d in'.
           let low : k < position_or_len test text = omega (arith, length-take {A = ℕ}) in
           ap test (get_or-take (position_or_len test text) text k d low) ∙ fails_before_first test text k d low),

@@ -45,31 +45,31 @@ IsOrMemory kind Cause = (kind ≡ Memory) ⊎ Cause
 
 -- the outcome of a line
 abbrev pub IsLineResult : ℕ → List ℕ → Result LineOutcome SourceKind → Type 0
-IsLineResult number line answer =
-    MatchResult answer (λ read. IsOutcome lexicon_outcome number line (outcome_of read))
+IsLineResult number line outcome =
+    MatchResult outcome (λ read. IsOutcome lexicon_outcome number line (outcome_of read))
     (λ kind. IsOrMemory kind (IsOutcome lexicon_outcome number line (Rejected kind)))
 
 -- the record of a line with any surface
 abbrev pub IsRecordResult : ℕ → List ℕ → Result (Option Record) SourceKind → Type 0
-IsRecordResult number line answer =
-    MatchResult answer (λ found. IsOutcome row_outcome number line (record_outcome found))
+IsRecordResult number line outcome =
+    MatchResult outcome (λ found. IsOutcome row_outcome number line (record_outcome found))
     (λ kind. IsOrMemory kind (IsOutcome row_outcome number line (Rejected kind)))
 
 -- the record that an outcome accepts
 abbrev pub IsAcceptedRecord : Outcome → Result Record SourceKind → Type 0
-IsAcceptedRecord outcome answer =
-    MatchResult answer (λ made. outcome ≡ Accepted (row_of made)) (λ kind. IsOrMemory kind (outcome ≡ Rejected kind))
+IsAcceptedRecord outcome outcome =
+    MatchResult outcome (λ made. outcome ≡ Accepted (row_of made)) (λ kind. IsOrMemory kind (outcome ≡ Rejected kind))
 
 -- the row, or an error because one of its numbers is invalid
 abbrev pub IsRowResult : Option Row → Result Record SourceKind → Type 0
-IsRowResult row answer =
-    MatchResult answer (λ made. row ≡ Some (row_of made)) (λ kind. IsOrMemory kind ((kind ≡ BadNumber) × (row ≡ None)))
+IsRowResult row outcome =
+    MatchResult outcome (λ made. row ≡ Some (row_of made)) (λ kind. IsOrMemory kind ((kind ≡ BadNumber) × (row ≡ None)))
 
 -- the parts of a line, None if it is blank, or an error with which every reader of such lines
 -- rejects it
 abbrev pub IsPartsResult : List ℕ → Result (Option LineParts) SourceKind → Type 0
-IsPartsResult line answer =
-    MatchResult answer (λ found. MatchOption found (IsTrue (is_blank_line line)) (HasEntry line))
+IsPartsResult line outcome =
+    MatchResult outcome (λ found. MatchOption found (IsTrue (is_blank_line line)) (HasEntry line))
     (λ kind. (outcome_from : ℕ → Parts → Outcome) (number : ℕ) → IsOutcome outcome_from number line (Rejected kind))
 
 -- ---- lexicons
@@ -86,8 +86,8 @@ AppendsLexicon file bytes old new skipped =
 
 -- the records of a lexicon were appended, or the lexicon is rejected with its first error
 abbrev pub IsLexiconResult : ℕ → List ℕ → List Record → List Record → Result ℕ SourceFault → Type 0
-IsLexiconResult file bytes old new answer =
-    MatchResult answer (AppendsLexicon file bytes old new)
+IsLexiconResult file bytes old new outcome =
+    MatchResult outcome (AppendsLexicon file bytes old new)
     (λ fault. IsMemoryOr fault (IsLexicon file (length old) bytes (Err fault)))
 
 -- the error of a line, after `held` entries

@@ -6,4 +6,4 @@ use Rattle.std.specs.List.{list_any, before_first, after_first}
 pub record IsSplit (test : ℕ → Bool) (bytes before following : List ℕ) : Type 0 where
   pub found : list_any test bytes ≡ true
   pub before_is : before ≡ before_first test bytes
-  pub behind_is : following ≡ after_first test bytes
+  pub following_is : following ≡ after_first test bytes

@@ -2,7 +2,7 @@
 ghost use Rattle.std.specs.Prelude.{◌≡◌, ℕ, List, ◌∷◌, ◌++◌, take, IfOk, IsUtf8, OnOk, ◌==◌, length, string_bytes, option_copied};
 ghost use Rattle.std.specs.Cow.{cow_str_bytes};
 ghost use Rattle.mj_model.specs.Bytes.{quote};
-ghost use Rattle.mj_model.specs.Fields.{StartsWithQuote, IsFieldOf, IsFirstField, rest_of as rest_behind};
+ghost use Rattle.mj_model.specs.Fields.{StartsWithQuote, IsFieldOf, IsFirstField, rest_of as rest_after};
 ghost use Rattle.lex_source.specs.Spelled.{IsRawForm, StartsWithField};
 
 use crate::quoted::{append_undoubled, split_quoted};
@@ -117,7 +117,7 @@ fn quoted_field(inside: &str) -> RawField<'_>
 
 /// Returns the remainder after the first comma.
 fn rest_of(text: &str) -> Option<&str>
-    ensures { option_copied result ≡ rest_behind text.now }
+    ensures { option_copied result ≡ rest_after text.now }
 {
     match split_text(text, b',') {
         Some((_, rest)) => Some(rest),

@@ -47,21 +47,21 @@ no_overlay fault reported = cc
 -- so bytes with that error pass the checks of a load with that error
 pub load_out_of_memory : (digest : DigestTest) (bytes : List ℕ) (fault : ImageFault) → (fault ≡ image.Memory → ReachKeys digest bytes) → of_image_fault fault ≡ segment.Memory → PassesTestsBeforeKeys digest bytes
 unfolding PassesTestsBeforeKeys
-load_out_of_memory digest bytes fault starved reported = starved (is_want fault reported)
+load_out_of_memory digest bytes fault no_memory reported = no_memory (is_want fault reported)
 
 -- ---- no check of an image reports out of memory
 
 -- none of these checks does
-abbrev TellNone : List Test → Type 0
-TellNone [] = Unit {0}
-TellNone (test ∷ tests) = (test.Reports image.Memory → ⊥) × TellNone tests
+abbrev ReportNone : List Test → Type 0
+ReportNone [] = Unit {0}
+ReportNone (test ∷ tests) = (test.Reports image.Memory → ⊥) × ReportNone tests
 
-none_first : (tests : List Test) → TellNone tests → IsFirstFault tests image.Memory → ⊥
+none_first : (tests : List Test) → ReportNone tests → IsFirstFault tests image.Memory → ⊥
 none_first [] none reported = reported
 none_first (test ∷ tests) none (inl reported) = none.0 reported
 none_first (test ∷ tests) none (inr later) = none_first tests none.1 later.1
 
-both : (xs ys : List Test) → TellNone xs → TellNone ys → TellNone (xs ++ ys)
+both : (xs ys : List Test) → ReportNone xs → ReportNone ys → ReportNone (xs ++ ys)
 both [] ys p q = q
 both (x ∷ xs) ys p q = (p.0, both xs ys p.1 q)
 
@@ -79,40 +79,40 @@ of_section number e = cc
 of_key : (number : ℕ) → image.BadKey number ≡ image.Memory → ⊥
 of_key number e = cc
 
-prefix_none : (h : Header) (bytes : List ℕ) → TellNone (prefix_tests h bytes)
+prefix_none : (h : Header) (bytes : List ℕ) → ReportNone (prefix_tests h bytes)
 prefix_none h bytes =
     past image.Truncated (λ (e : image.Truncated ≡ image.Memory). cc)
     (past image.BadMagic (λ (e : image.BadMagic ≡ image.Memory). cc)
     (past (image.BadLayout h.layout) (λ (e : image.BadLayout h.layout ≡ image.Memory). cc) tt))
 
-end_none : (digest : DigestTest) (h : Header) (bytes : List ℕ) → TellNone (end_tests digest h bytes)
+end_none : (digest : DigestTest) (h : Header) (bytes : List ℕ) → ReportNone (end_tests digest h bytes)
 end_none digest h bytes =
     past image.Truncated (λ (e : image.Truncated ≡ image.Memory). cc)
     (past (image.BadSection 9) (of_section 9)
     (past image.Digest (λ (e : image.Digest ≡ image.Memory). cc) tt))
 
-header_none : (h : Header) → TellNone (header_tests h)
+header_none : (h : Header) → ReportNone (header_tests h)
 header_none h = past (image.BadSection 0) (of_section 0) tt
 
-system_none : (h : Header) (costs categories infos index : List ℕ) → TellNone (system_tests h costs categories infos index)
+system_none : (h : Header) (costs categories infos index : List ℕ) → ReportNone (system_tests h costs categories infos index)
 system_none h costs categories infos index =
     past (image.BadSection 1) (of_section 1)
     (past (image.BadSection 2) (of_section 2)
     (past (image.BadSection 3) (of_section 3)
     (past (image.BadSection 4) (of_section 4) tt)))
 
-key_none : (form : KeyForm) (groups : ℕ) (keys : List ℕ) → TellNone (key_tests form groups keys)
+key_none : (form : KeyForm) (groups : ℕ) (keys : List ℕ) → ReportNone (key_tests form groups keys)
 key_none key.Listed groups keys = past_each groups (IsListedKey keys) image.BadKey of_key (past (image.BadSection 5) (of_section 5) tt)
 key_none key.Cells groups keys = past (image.BadSection 5) (of_section 5) (past_each groups (HasKey (stored_cells keys)) image.BadKey of_key tt)
 
-token_none : (h : Header) (groups tokens features : List ℕ) → TellNone (token_tests h groups tokens features)
+token_none : (h : Header) (groups tokens features : List ℕ) → ReportNone (token_tests h groups tokens features)
 token_none h groups tokens features =
     past (image.BadSection 6) (of_section 6)
     (past (image.BadSection 7) (of_section 7)
     (past_each (all_tokens h) (λ i. FitsSizes h.sizes (stored_token tokens i)) image.BadToken (λ (i : ℕ) (e : image.BadToken i ≡ image.Memory). cc)
     (past_each (all_tokens h) (λ i. HasFeature features (stored_token tokens i)) image.BadText (λ (i : ℕ) (e : image.BadText i ≡ image.Memory). cc) tt)))
 
-section_none : (h : Header) (bytes : List ℕ) → TellNone (section_tests h bytes)
+section_none : (h : Header) (bytes : List ℕ) → ReportNone (section_tests h bytes)
 section_none h bytes =
     let keys = key_tests (key_form h.layout) h.groups (section bytes 5) in
     let tokens = token_tests h (section bytes 6) (section bytes 7) (section bytes 8) in

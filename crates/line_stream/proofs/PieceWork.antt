@@ -39,12 +39,12 @@ no_feed_at_all rest none k d h =
 -- ---- the work before the next line
 
 -- the bytes after the last LF are too many for a line, or an allocation for them failed
-abbrev pub TellsHeld : List ℕ → List ℕ → LineError → Type 0
-TellsHeld held rest error =
+abbrev pub ReportsHeld : List ℕ → List ℕ → LineError → Type 0
+ReportsHeld held rest error =
     ReportsOr ((0 < length rest) × (length (held ++ rest) ≤ SENTENCE_MAX)) (λ fault. (fault ≡ TooLong) × (SENTENCE_MAX < length (held ++ rest))) error
 
 abbrev pub IsHeldCause : List ℕ → List ℕ → List (List ℕ) → LineError → Type 0
-IsHeldCause held rest done error = (done ≡ []) × TellsHeld held rest error
+IsHeldCause held rest done error = (done ≡ []) × ReportsHeld held rest error
 
 module _ (Reports : List ℕ → Result (List ℕ) LineFault → Type 0) where
   -- the lines so far printed; all bytes split into lines as the pending bytes and the remainder do;
@@ -184,7 +184,7 @@ module _ (Reports : List ℕ → Result (List ℕ) LineFault → Type 0) where
           )
 
       held_by : (error : LineError) → ((line : List ℕ) → SENTENCE_MAX < length line → Reports line (Err TooLong))
-          → TellsHeld held rest error → IsCause Reports bytes w.done error
+          → ReportsHeld held rest error → IsCause Reports bytes w.done error
       held_by Memory long reports = (complete_lines (held ++ rest), w.whole, next_open reports.0 reports.1)
       held_by (Bad fault) long reports =
           let open_long = subst (λ z. SENTENCE_MAX < length z) working_open reports.1 in
@@ -197,7 +197,7 @@ module _ (Reports : List ℕ → Result (List ℕ) LineFault → Type 0) where
 
       -- or the bytes after the last LF stopped the step
       pub working_held : ((line : List ℕ) → SENTENCE_MAX < length line → Reports line (Err TooLong)) → (error : LineError) (fault : StreamFault)
-          → TellsHeld held rest error
+          → ReportsHeld held rest error
           → WaitingStopped waits error (lines + 1) (step_of t1 t2) sent1 fault
           → StepStopped Reports (IsCause Reports bytes) before [] (complete_lines bytes) (step_of t0 t2) sent0 fault
       working_held long error fault reports s =

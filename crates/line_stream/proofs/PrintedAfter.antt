@@ -22,10 +22,10 @@ module _ (Reports : List ℕ → Result (List ℕ) LineFault → Type 0) where
 
   pub bad_after : (n : ℕ) (done more : List (List ℕ)) (text bad : List ℕ) (fault : LineFault) (line : ℕ) → AllPrint Reports n done text
       → Reports bad (Err fault) → line ≡ n + length done → Output Reports n (done ++ bad ∷ more) text (Some (record { number = line; fault = fault }))
-  bad_after n done more text bad fault line h judged e =
+  bad_after n done more text bad fault line h checked e =
       subst (λ t. Output Reports n (done ++ bad ∷ more) t (Some (record { number = line; fault = fault }))) (append-nil text)
       (print_append n done (bad ∷ more) text [] (Some (record { number = line; fault = fault })) h
-      (inl (fault, judged, refl, ap (λ m. Some (record { number = m; fault = fault })) e)))
+      (inl (fault, checked, refl, ap (λ m. Some (record { number = m; fault = fault })) e)))
 
   -- one line
   pub print_one : (n : ℕ) (line text : List ℕ) → Reports line (Ok text) → AllPrint Reports n (line ∷ []) text

@@ -223,9 +223,9 @@ module _ (Reports : List ℕ → Result (List ℕ) LineFault → Type 0) (bound 
       bad_run : (all : List (List ℕ)) (written : List ℕ) (done more : List (List ℕ)) (bad : List ℕ) (fault : LineFault) (line : ℕ)
           → all ≡ (complete_lines r.bytes ++ done) ++ bad ∷ more → AllPrint Reports (lines + 1) done written → Reports bad (Err fault)
           → line ≡ lines + length done + 1 → IsBad Reports all (r.written ++ written) line fault
-      bad_run all written done more bad fault line parts print judged e =
+      bad_run all written done more bad fault line parts print checked e =
           subst (λ ls. IsBad Reports ls (r.written ++ written) line fault) (sym parts)
-          (bad_after Reports 1 (complete_lines r.bytes ++ done) more (r.written ++ written) bad fault line (printed_on done written print) judged (number_is done line e))
+          (bad_after Reports 1 (complete_lines r.bytes ++ done) more (r.written ++ written) bad fault line (printed_on done written print) checked (number_is done line e))
 
       -- the line is invalid among the complete lines, and so among all
       bad_ends : (bytes written : List ℕ) (fault : LineFault) (line : ℕ) → IsBad Reports (text_lines bytes) written line fault

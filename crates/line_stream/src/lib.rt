@@ -9,9 +9,9 @@
 //!
 //! ```text
 //! // `input` returns the text "ab\n", one byte per read; at most 4 reads are allowed
-//! run_over(alloc, &printer, &mut kept, &mut input, &mut out, 4)   // Ok(1)
+//! run_over(alloc, &printer, &mut buffers, &mut input, &mut out, 4)   // Ok(1)
 //! // out is "ab\t未知\nEOS\n"; with the text "ab\ncd\n" 4 reads don't reach the end:
-//! run_over(alloc, &printer, &mut kept, &mut input, &mut out, 4)   // Err(InputTooLong(2))
+//! run_over(alloc, &printer, &mut buffers, &mut input, &mut out, 4)   // Err(InputTooLong(2))
 //! ```
 //! The test `bound_on_reads` of `crates/text_tests` runs it.
 #![tactic(auto)]

@@ -21,11 +21,11 @@ pub trait LinePrinter {
     /// `line_result line (Err fault)`: the line has the error `fault`.
     ghost line_result: { Self → List ℕ → Result (List ℕ) LineFault → Type 0 };
 
-    /// Appends the output of the line `text` to `out`. On an error a part of the output may remain
-    /// in `out`.
+    /// Appends the output of the line `text` to `out`. `buffers` are reused from line to line. On an
+    /// error a part of the output may remain in `out`.
     fn append_line(
         &self,
-        kept: &mut Self::Buffers,
+        buffers: &mut Self::Buffers,
         text: &str,
         out: &mut Vec<u8>,
     ) -> Result<(), AllocError>

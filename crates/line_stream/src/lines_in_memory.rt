@@ -24,7 +24,7 @@ pub struct StoppedLine {
 /// Prints `line`, and adds 1 to `lines`, the number of lines so far.
 fn print_next_line<P: LinePrinter>(
     printer: &P,
-    kept: &mut P::Buffers,
+    buffers: &mut P::Buffers,
     line: &[u8],
     lines: &mut u64,
     out: &mut Vec<u8>,
@@ -40,7 +40,7 @@ fn print_next_line<P: LinePrinter>(
     ensures unchanged { OnErr result (out.new.items ≡ out.old.items) }
 {
     *lines += 1;
-    match print_line(printer, kept, line, out) {
+    match print_line(printer, buffers, line, out) {
         Ok(()) => Ok(()),
         Err(error) => Err(StoppedLine {
             line: *lines,
@@ -55,7 +55,7 @@ fn print_next_line<P: LinePrinter>(
 /// A line ends at an LF. The last line may lack it.
 pub fn print_lines<P: LinePrinter>(
     printer: &P,
-    kept: &mut P::Buffers,
+    buffers: &mut P::Buffers,
     text: &[u8],
     out: &mut Vec<u8>,
 ) -> Result<u64, StoppedLine>
@@ -70,11 +70,11 @@ pub fn print_lines<P: LinePrinter>(
     let mut rest = text;
     while let Some(at) = memchr(b'\n', rest) {
         let (line, following) = split_at_feed(rest, at);
-        print_next_line(printer, kept, line, &mut lines, out)?;
+        print_next_line(printer, buffers, line, &mut lines, out)?;
         rest = following;
     }
     if !rest.is_empty() {
-        print_next_line(printer, kept, rest, &mut lines, out)?;
+        print_next_line(printer, buffers, rest, &mut lines, out)?;
     }
     Ok(lines)
 }

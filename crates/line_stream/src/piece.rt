@@ -35,7 +35,7 @@ pub fn split_at_feed(bytes: &[u8], at: usize) -> (&[u8], &[u8])
 fn process_line<P: LinePrinter, W: TextOut>(
     printer: &P,
     part: &[u8],
-    kept: &mut P::Buffers,
+    buffers: &mut P::Buffers,
     progress: &mut StreamState,
     writer: &mut W,
     sent: &mut u128,
@@ -57,7 +57,7 @@ fn process_line<P: LinePrinter, W: TextOut>(
         ((progress.old.pending.items ++ part.now) ∷ [])
         (step_of (W.state writer.old) (W.state writer.new)) sent.old) }
 {
-    match progress.end_line(printer, kept, part) {
+    match progress.end_line(printer, buffers, part) {
         Ok(()) if progress.out.len() <= OUTPUT_MAX => Ok(()),
         Ok(()) => write_out(writer, &mut progress.out, sent),
         Err(error) => Err(stop(writer, progress, sent, error)),
@@ -68,7 +68,7 @@ fn process_line<P: LinePrinter, W: TextOut>(
 /// in `progress.pending`.
 pub fn process_piece<P: LinePrinter, W: TextOut>(
     printer: &P,
-    kept: &mut P::Buffers,
+    buffers: &mut P::Buffers,
     piece: &[u8],
     progress: &mut StreamState,
     writer: &mut W,
@@ -98,7 +98,7 @@ pub fn process_piece<P: LinePrinter, W: TextOut>(
     let mut rest = piece;
     while let Some(at) = memchr(b'\n', rest) {
         let (line, following) = split_at_feed(rest, at);
-        process_line(printer, line, kept, progress, writer, sent)?;
+        process_line(printer, line, buffers, progress, writer, sent)?;
         rest = following;
     }
     match append_pending(&mut progress.pending, rest) {

@@ -18,7 +18,7 @@ pub const BUFFER_SIZE: usize = 65_536;
 fn print_lines<P: LinePrinter, R: TextIn, W: TextOut>(
     alloc: Global,
     printer: &P,
-    kept: &mut P::Buffers,
+    buffers: &mut P::Buffers,
     reader: &mut R,
     writer: &mut W,
     buffer: &mut [u8],
@@ -38,13 +38,13 @@ fn print_lines<P: LinePrinter, R: TextIn, W: TextOut>(
     let mut sent = 0;
     for _turn in 0..bound {
         let taken = match reader.read_counted(buffer) {
-            Ok(0) => return finish(printer, kept, &mut progress, writer, &mut sent),
+            Ok(0) => return finish(printer, buffers, &mut progress, writer, &mut sent),
             Ok(n) => n,
             Err(_) => return Err(StreamFault::Read(progress.lines + 1)),
         };
         process_piece(
             printer,
-            kept,
+            buffers,
             &buffer[..taken],
             &mut progress,
             writer,
@@ -69,7 +69,7 @@ pub fn new_buffer(alloc: Global) -> Result<Vec<u8>, AllocError>
 pub fn run_over<P: LinePrinter, R: TextIn, W: TextOut>(
     alloc: Global,
     printer: &P,
-    kept: &mut P::Buffers,
+    buffers: &mut P::Buffers,
     reader: &mut R,
     writer: &mut W,
     bound: u64,
@@ -82,5 +82,5 @@ pub fn run_over<P: LinePrinter, R: TextIn, W: TextOut>(
     let Ok(mut buffer) = new_buffer(alloc) else {
         return Err(StreamFault::Line(1, LineError::Memory));
     };
-    print_lines(alloc, printer, kept, reader, writer, &mut buffer, bound)
+    print_lines(alloc, printer, buffers, reader, writer, &mut buffer, bound)
 }

@@ -70,7 +70,7 @@ pub fn stop<W: TextOut>(
 /// flushes the writer. Returns the number of lines.
 pub fn finish<P: LinePrinter, W: TextOut>(
     printer: &P,
-    kept: &mut P::Buffers,
+    buffers: &mut P::Buffers,
     progress: &mut StreamState,
     writer: &mut W,
     sent: &mut u128,
@@ -93,7 +93,7 @@ pub fn finish<P: LinePrinter, W: TextOut>(
         (step_of (W.state writer.old) (W.state writer.new))
         sent.old) }
 {
-    if let Err(error) = progress.end_input(printer, kept) {
+    if let Err(error) = progress.end_input(printer, buffers) {
         return Err(StreamFault::Line(progress.lines + 1, error));
     }
     write_out(writer, &mut progress.out, sent)?;

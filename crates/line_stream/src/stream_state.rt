@@ -29,7 +29,7 @@ pub struct StreamState {
 /// Appends the output of the line `text`. On an error `out` is unchanged.
 fn print_text<P: LinePrinter>(
     printer: &P,
-    kept: &mut P::Buffers,
+    buffers: &mut P::Buffers,
     text: &str,
     out: &mut Vec<u8>,
 ) -> Result<(), AllocError>
@@ -39,7 +39,7 @@ fn print_text<P: LinePrinter>(
     ensures unchanged { OnErr result (out.new.items ≡ out.old.items) }
 {
     let count = out.len();
-    let shown = printer.append_line(kept, text, out);
+    let shown = printer.append_line(buffers, text, out);
     if shown.is_err() {
         out.truncate(count);
     }
@@ -50,7 +50,7 @@ fn print_text<P: LinePrinter>(
 /// error `out` is unchanged.
 pub fn print_line<P: LinePrinter>(
     printer: &P,
-    kept: &mut P::Buffers,
+    buffers: &mut P::Buffers,
     line: &[u8],
     out: &mut Vec<u8>,
 ) -> Result<(), LineError>
@@ -62,7 +62,7 @@ pub fn print_line<P: LinePrinter>(
     ensures unchanged { OnErr result (out.new.items ≡ out.old.items) }
 {
     match text_of(line) {
-        Ok(text) => Ok(print_text(printer, kept, text, out)?),
+        Ok(text) => Ok(print_text(printer, buffers, text, out)?),
         Err(fault) => Err(LineError::Bad(fault)),
     }
 }
@@ -91,7 +91,7 @@ impl StreamState {
     pub fn end_line<P: LinePrinter>(
         &mut self,
         printer: &P,
-        kept: &mut P::Buffers,
+        buffers: &mut P::Buffers,
         part: &[u8],
     ) -> Result<(), LineError>
         requires count { self.old.lines + 1 < 2 ^ 64 }
@@ -107,10 +107,10 @@ impl StreamState {
             ((self.new.out.items ≡ self.old.out.items) × (self.new.lines ≡ self.old.lines)) }
     {
         if self.pending.is_empty() {
-            print_line(printer, kept, part, &mut self.out)?;
+            print_line(printer, buffers, part, &mut self.out)?;
         } else {
             append_pending(&mut self.pending, part)?;
-            print_line(printer, kept, &self.pending, &mut self.out)?;
+            print_line(printer, buffers, &self.pending, &mut self.out)?;
             self.pending.clear();
         }
         self.lines += 1;
@@ -121,7 +121,7 @@ impl StreamState {
     pub fn end_input<P: LinePrinter>(
         &mut self,
         printer: &P,
-        kept: &mut P::Buffers,
+        buffers: &mut P::Buffers,
     ) -> Result<(), LineError>
         requires count { self.old.lines + 1 < 2 ^ 64 }
         ensures processed { OnOk result
@@ -135,6 +135,6 @@ impl StreamState {
         if self.pending.is_empty() {
             return Ok(());
         }
-        self.end_line(printer, kept, b"")
+        self.end_line(printer, buffers, b"")
     }
 }

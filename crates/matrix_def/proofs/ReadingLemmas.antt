@@ -43,7 +43,7 @@ cut_at_feed line more none =
     record {
       found = list_any-append is_line_feed line (line_feed ∷ more) ∙ ap (λ (b : Bool). b || list_any is_line_feed (line_feed ∷ more)) none;
       before_is = sym (ap (λ (n : ℕ). take n all) at ∙ take-append_seam line (line_feed ∷ more));
-      behind_is = sym (ap (λ (n : ℕ). drop (n + 1) all) at ∙ drop-append-add line (line_feed ∷ more) 1);
+      following_is = sym (ap (λ (n : ℕ). drop (n + 1) all) at ∙ drop-append-add line (line_feed ∷ more) 1);
     }
 
 pub feed_append : (xs ys : List ℕ) → HasNoFeed xs → HasNoFeed ys → HasNoFeed (xs ++ ys)
@@ -244,7 +244,7 @@ first_line start more none some =
           record {
             part = take n more;
             rest = source_lines (after_first is_line_feed all);
-            lines = cut_lines all (start ++ take n more) (after_first is_line_feed all) (without_return (start ++ take n more)) (record { found = feed; before_is = sym before; behind_is = refl }) refl;
+            lines = cut_lines all (start ++ take n more) (after_first is_line_feed all) (without_return (start ++ take n more)) (record { found = feed; before_is = sym before; following_is = refl }) refl;
           }
       | inr none_at_all ↦ record { part = more; rest = []; lines = last_line all (without_return all) [] long none_at_all refl refl }
     ]
@@ -256,8 +256,8 @@ start_some (c ∷ cs) none = omega arith
 -- the unfinished line is no header: the file is rejected for it, whatever follows
 pub header_rejected : (bytes : List ℕ) (number : ℕ) (r : ReaderView) → HasRead bytes r → r.state ≡ Header → number ≡ reported_number (r.complete_lines + 1) → IsNoHeader r.unfinished
     → (more : List ℕ) → reported_connection (bytes ++ more) ≡ Err (record { file = 0; line = number; kind = BadHeader })
-header_rejected bytes number r h state number_is refused more =
-    let first = first_line r.unfinished more h.unended (start_some r.unfinished refused) in
+header_rejected bytes number r h state number_is rejected more =
+    let first = first_line r.unfinished more h.unended (start_some r.unfinished rejected) in
     let w : List ℕ = without_return (r.unfinished ++ first.part) in
     let n : ℕ = 1 + length h.lines in
     let reported : reported_number n ≡ number = omega (arith, number_is, h.counted) in
@@ -267,10 +267,10 @@ header_rejected bytes number r h state number_is refused more =
     ap (λ (bs : List ℕ). source_lines (bs ++ more)) h.parts ∙ ap source_lines (append_assoc h.closed r.unfinished more) ∙ h.cut (r.unfinished ++ more)
     ∙ ap (λ (ls : List (List ℕ)). h.lines ++ ls) first.lines in
     let header : nonblank_lines (reported_lines n (w ∷ first.rest)) ≡ (reported_number n, w) ∷ rows =
-    ap (λ (b : Bool). cond (not b) ((reported_number n, w) ∷ rows) rows) (refused first.part).0 in
+    ap (λ (b : Bool). cond (not b) ((reported_number n, w) ∷ rows) rows) (rejected first.part).0 in
     let filled : nonblank_lines (reported_lines 1 (source_lines (bytes ++ more))) ≡ (reported_number n, w) ∷ rows =
     ap (λ (ls : List (List ℕ)). nonblank_lines (reported_lines 1 ls)) all ∙ filled-append 1 n h.lines (w ∷ first.rest) refl
     ∙ ap (λ (ls : List (ℕ × List ℕ)). ls ++ nonblank_lines (reported_lines n (w ∷ first.rest))) nothing ∙ header in
     ap connection_from filled
-    ∙ ap (λ (sizes : Option MatrixSizes). connection_under (reported_number n) sizes rows) (refused first.part).1
+    ∙ ap (λ (sizes : Option MatrixSizes). connection_under (reported_number n) sizes rows) (rejected first.part).1
     ∙ ap (λ (line : ℕ). Err (record { file = 0; line = line; kind = BadHeader })) reported

@@ -164,7 +164,7 @@ IsFormat texts (Err fault.Memory) = ⊥
 
 -- the texts are rejected: an allocation failed, or this is their first error
 abbrev pub IsFormatError : FormatTexts → FormatFault → Type 0
-IsFormatError texts refusal = (refusal ≡ fault.Memory) ⊎ IsFormat texts (Err refusal)
+IsFormatError texts error = (error ≡ fault.Memory) ⊎ IsFormat texts (Err error)
 
 -- each four texts parse in exactly one way
 abbrev pub HasOneFormat : Type 0

@@ -13,7 +13,7 @@
 //! print(alloc, &format, &dictionaries, "すもももも", &path, &mut out)?;
 //! // out was ">" and is ">すもも\t名詞,すもも\nもも\t名詞,もも\nEOS\n"
 //! ```
-//! The test `a_path_behind_other_text` of `crates/text_tests` runs it.
+//! The test `a_path_after_other_text` of `crates/text_tests` runs it.
 #![tactic(auto)]
 
 mod appending;

@@ -27,16 +27,16 @@ pub place_kept : (first rest : List ℕ) → header_length ≤ length first → 
 place_kept first rest long = ap (λ (h : Header). section_end h 8) (header_kept first rest long)
 
 -- a checksum that is right need not be tested again
-pub digest_found : (asked : DigestTest) (bytes : List ℕ) → IsDigestAt Verified (digest_place bytes) bytes → AgreeOnDigest asked Skipped bytes
+pub digest_found : (requested : DigestTest) (bytes : List ℕ) → IsDigestAt Verified (digest_place bytes) bytes → AgreeOnDigest requested Skipped bytes
 digest_found Verified bytes right = ((λ _ _. tt), (λ _ _. right))
 digest_found Skipped bytes right = ((λ _ _. tt), (λ _ _. tt))
 
 -- checksum tests with the same result make the other tests of an image give the same result
-module _ (asked left : DigestTest) (bytes : List ℕ) (alike : AgreeOnDigest asked left bytes) where
-  pub accepted_alike : IsAccepted left bytes → IsAccepted asked bytes
+module _ (requested left : DigestTest) (bytes : List ℕ) (alike : AgreeOnDigest requested left bytes) where
+  pub accepted_alike : IsAccepted left bytes → IsAccepted requested bytes
   accepted_alike w = (w.0, (w.1.0, (w.1.1.0, (w.1.1.1.0, (w.1.1.1.1.0, (alike.1 w.1.1.1.1.1.0, w.1.1.1.1.1.1))))))
 
-  pub keys_alike : ReachKeys left bytes → ReachKeys asked bytes
+  pub keys_alike : ReachKeys left bytes → ReachKeys requested bytes
   keys_alike w = (w.0, (w.1.0, (w.1.1.0, (alike.1 w.1.1.1.0, w.1.1.1.1))), w.2)
 
   later : {T P F G : Type 0} → (F → G) → T ⊎ (P × F) → T ⊎ (P × G)
@@ -44,14 +44,14 @@ module _ (asked left : DigestTest) (bytes : List ℕ) (alike : AgreeOnDigest ask
   later so (inr both) = inr (both.0, so both.1)
 
   last : {F : Type 0} {reported : ImageFault} → ((PassesDigest left bytes → ⊥) × (reported ≡ Digest)) ⊎ (PassesDigest left bytes × F)
-      → ((PassesDigest asked bytes → ⊥) × (reported ≡ Digest)) ⊎ (PassesDigest asked bytes × F)
+      → ((PassesDigest requested bytes → ⊥) × (reported ≡ Digest)) ⊎ (PassesDigest requested bytes × F)
   last (inl reports) = inl ((λ passes. reports.0 (alike.0 passes)), reports.1)
   last (inr both) = inr (alike.1 both.0, both.1)
 
-  pub fault_alike : (fault : ImageFault) → IsImageFault left bytes fault → IsImageFault asked bytes fault
+  pub fault_alike : (fault : ImageFault) → IsImageFault left bytes fault → IsImageFault requested bytes fault
   fault_alike fault reported = later (later (later (later (later last)))) reported
 
-  pub rejected_alike : (fault : ImageFault) → (fault ≡ Memory) ⊎ IsImageFault left bytes fault → (fault ≡ Memory) ⊎ IsImageFault asked bytes fault
+  pub rejected_alike : (fault : ImageFault) → (fault ≡ Memory) ⊎ IsImageFault left bytes fault → (fault ≡ Memory) ⊎ IsImageFault requested bytes fault
   rejected_alike fault (inl none) = inl none
   rejected_alike fault (inr reported) = inr (fault_alike fault reported)
 

@@ -26,7 +26,7 @@ tested_of known bytes found (inr reported) = inr (reported.0, reported.2)
 
 of_same : (digest : DigestTest) (bytes known : List ℕ) (found : ImageFault) → bytes ≡ known → IsOutOfMemoryLoad digest bytes found ⊎ IsImageFault digest bytes found
     → IsOutOfMemoryLoad digest known found ⊎ (IsImageFault digest known found ⊎ IsFaultOrLength known found)
-of_same digest bytes known found same (inl starved) = inl (subst (λ (b : List ℕ). IsOutOfMemoryLoad digest b found) same starved)
+of_same digest bytes known found same (inl no_memory) = inl (subst (λ (b : List ℕ). IsOutOfMemoryLoad digest b found) same no_memory)
 of_same digest bytes known found same (inr theirs) = inr (inl (subst (λ (b : List ℕ). IsImageFault digest b found) same theirs))
 
 -- bytes that pass the tests with the remaining checksum test pass them with the requested one
@@ -44,15 +44,15 @@ reported_so IsSo found path reported so (inr named) = subst (IfRejected IsSo) (s
 module _ {F : Type 0} (remaining : F → Option (List ℕ)) where
   -- the error of a file that was opened
   pub rejected_by : (file : F) (known : Option ℕ) (reported : Fault) → IfRejected (IsErrorOrLengthAt known (remaining file)) reported → IsErrorOfAFile remaining reported
-  rejected_by file known (fault.Image path found) judged = (file, if_some_so _ _ (remaining file) (λ bytes is few. tested_of known bytes found (is few)) judged)
-  rejected_by file known (fault.File path) judged = tt
-  rejected_by file known (fault.Source path found) judged = tt
-  rejected_by file known (fault.Sources found) judged = tt
-  rejected_by file known (fault.Overlay path found) judged = tt
-  rejected_by file known (fault.Format found) judged = tt
-  rejected_by file known (fault.Run found) judged = tt
-  rejected_by file known fault.Output judged = tt
-  rejected_by file known fault.Memory judged = tt
+  rejected_by file known (fault.Image path found) checked = (file, if_some_so _ _ (remaining file) (λ bytes is few. tested_of known bytes found (is few)) checked)
+  rejected_by file known (fault.File path) checked = tt
+  rejected_by file known (fault.Source path found) checked = tt
+  rejected_by file known (fault.Sources found) checked = tt
+  rejected_by file known (fault.Overlay path found) checked = tt
+  rejected_by file known (fault.Format found) checked = tt
+  rejected_by file known (fault.Run found) checked = tt
+  rejected_by file known fault.Output checked = tt
+  rejected_by file known fault.Memory checked = tt
 
   -- an image that is rejected before it is loaded
   pub read_error : (digest : DigestTest) (reported : Fault) → IsErrorOfAFile remaining reported → IsLoadError digest remaining reported
@@ -72,5 +72,5 @@ module _ {F : Type 0} (remaining : F → Option (List ℕ)) where
       → (opened : F)
       × IfSome (remaining opened) (λ known. length known < 2 ^ 64 → IsOutOfMemoryLoad digest known found ⊎ (IsImageFault digest known found ⊎ IsFaultOrLength known found))
   load_error digest left bytes found are alike keys is =
-      let starved = out_of_memory_alike digest left bytes found alike keys is in
-      (are.0, if_some_so _ _ (remaining are.0) (λ known same few. of_same digest bytes known found same starved) are.1)
+      let no_memory = out_of_memory_alike digest left bytes found alike keys is in
+      (are.0, if_some_so _ _ (remaining are.0) (λ known same few. of_same digest bytes known found same no_memory) are.1)

@@ -25,4 +25,4 @@ pub record HasReceived (bytes : List ℕ) (pieces : ImagePieces) : Type 0 where
 
 -- two tests of the checksum give the same result for these bytes
 abbrev pub AgreeOnDigest : DigestTest → DigestTest → List ℕ → Type 0
-AgreeOnDigest asked left bytes = PassesDigest asked bytes ↔ PassesDigest left bytes
+AgreeOnDigest requested left bytes = PassesDigest requested bytes ↔ PassesDigest left bytes

@@ -34,7 +34,7 @@ shared_image_dir prefix = prefix ++ codes "/share/kumquatsieve"
 
 -- the directories with a further one, unless it is among them
 abbrev pub with_image_dir : List (List ℕ) → List ℕ → List (List ℕ)
-with_image_dir image_dirs home = (if list_any (λ one. bytes_eq one home) image_dirs then image_dirs else image_dirs ++ home ∷ [])
+with_image_dir image_dirs dir = (if list_any (λ one. bytes_eq one dir) image_dirs then image_dirs else image_dirs ++ dir ∷ [])
 
 -- the directories followed by those of the system
 abbrev pub with_system : Option (String Global) → List (List ℕ) → List (List ℕ)

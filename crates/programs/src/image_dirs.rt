@@ -14,7 +14,7 @@ impl Environment {
     /// (XDG Base Directory Specification; Filesystem Hierarchy Standard)
     pub fn image_dirs(&self, alloc: Global) -> Result<Vec<String>, AllocError>
         ensures { IfOk result (λ image_dirs.
-            map (λ home. string_bytes home) image_dirs.items ≡ image_dirs_of self.now) }
+            map (λ dir. string_bytes dir) image_dirs.items ≡ image_dirs_of self.now) }
     {
         let own = self.user_image_dirs(alloc)?;
         with_system(alloc, own, &self.prefix)
@@ -23,14 +23,14 @@ impl Environment {
     /// Returns the user's image directory, if there is one, as a list.
     fn user_image_dirs(&self, alloc: Global) -> Result<Vec<String>, AllocError>
         ensures { IfOk result (λ image_dirs.
-            map (λ home. string_bytes home) image_dirs.items
+            map (λ dir. string_bytes dir) image_dirs.items
             ≡ option_to_list (user_image_dir self.now)) }
     {
         let mut image_dirs = Vec::new(alloc);
-        let Some(home) = self.user_image_dir(alloc)? else {
+        let Some(dir) = self.user_image_dir(alloc)? else {
             return Ok(image_dirs);
         };
-        image_dirs.push(home)?;
+        image_dirs.push(dir)?;
         Ok(image_dirs)
     }
 
@@ -38,7 +38,7 @@ impl Environment {
     /// Base Directory Specification)
     fn user_image_dir(&self, alloc: Global) -> Result<Option<String>, AllocError>
         ensures { IfOk result (λ found.
-            option_map (λ home. string_bytes home) found ≡ user_image_dir self.now) }
+            option_map (λ dir. string_bytes dir) found ≡ user_image_dir self.now) }
     {
         if let Some(share) = absolute(&self.data_home) {
             return Ok(Some(joined(alloc, share, "/kumquatsieve")?));
@@ -56,8 +56,8 @@ fn with_system(
     own: Vec<String>,
     prefix: &Option<String>,
 ) -> Result<Vec<String>, AllocError>
-    ensures { IfOk result (λ image_dirs. map (λ home. string_bytes home) image_dirs.items
-        ≡ with_system prefix.now (map (λ home. string_bytes home) own.items)) }
+    ensures { IfOk result (λ image_dirs. map (λ dir. string_bytes dir) image_dirs.items
+        ≡ with_system prefix.now (map (λ dir. string_bytes dir) own.items)) }
 {
     let mut image_dirs = own;
     let Some(prefix) = prefix else {
@@ -83,22 +83,22 @@ fn absolute(path: &Option<String>) -> Option<&str>
 /// Returns the directory of images built on this system, for a program installed under `prefix`. It
 /// lies in `/var` if the prefix is `/usr`.
 fn local_image_dir(alloc: Global, prefix: &str) -> Result<String, AllocError>
-    ensures { IfOk result (λ home. string_bytes home ≡ local_image_dir prefix.now) }
+    ensures { IfOk result (λ dir. string_bytes dir ≡ local_image_dir prefix.now) }
 {
     let root = if prefix == "/usr" { "" } else { prefix };
     joined(alloc, root, "/var/lib/kumquatsieve")
 }
 
-/// Appends `home` to the directories unless it is among them.
-fn add_image_dir(image_dirs: &mut Vec<String>, home: String) -> Result<(), AllocError>
-    ensures { OnOk result (map (λ home. string_bytes home) image_dirs.new.items
-        ≡ with_image_dir (map (λ home. string_bytes home) image_dirs.old.items)
-        (string_bytes home)) }
+/// Appends `dir` to the directories unless it is among them.
+fn add_image_dir(image_dirs: &mut Vec<String>, dir: String) -> Result<(), AllocError>
+    ensures { OnOk result (map (λ dir. string_bytes dir) image_dirs.new.items
+        ≡ with_image_dir (map (λ dir. string_bytes dir) image_dirs.old.items)
+        (string_bytes dir)) }
 {
-    if image_dirs.contains(&home) {
+    if image_dirs.contains(&dir) {
         return Ok(());
     }
-    image_dirs.push(home)?;
+    image_dirs.push(dir)?;
     Ok(())
 }
 

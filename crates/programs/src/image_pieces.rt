@@ -56,16 +56,15 @@ impl<'a> ImagePieces<'a> {
         }
     }
 
-    /// Returns the image after its last byte. `asked` is the checksum test that was requested for
-    /// it.
-    pub(crate) fn whole(self, asked: DigestTest) -> ReadImage
+    /// Returns the image after its last byte. `requested` is the checksum test that the caller wants.
+    pub(crate) fn whole(self, requested: DigestTest) -> ReadImage
         ensures bytes { (bytes : List ℕ) → HasReceived bytes self.entry
             → result.bytes.items ≡ bytes }
         ensures digest { (bytes : List ℕ) → HasReceived bytes self.entry
-            → AgreeOnDigest asked result.digest bytes }
+            → AgreeOnDigest requested result.digest bytes }
     {
         let ImagePieces { bytes, hashed, .. } = self;
-        let digest = remaining_test(hashed, &bytes, asked);
+        let digest = remaining_test(hashed, &bytes, requested);
         ReadImage { bytes, digest }
     }
 }
@@ -91,13 +90,13 @@ fn update_hash(hashed: Option<Hashed>, before: usize, piece: &[u8]) -> Option<Ha
 
 /// Returns the checksum test that remains to be made for a whole image: none if it was hashed and
 /// the checksum is right.
-fn remaining_test(hashed: Option<Hashed>, image: &[u8], asked: DigestTest) -> DigestTest
+fn remaining_test(hashed: Option<Hashed>, image: &[u8], requested: DigestTest) -> DigestTest
     ensures { IfSome hashed (HasHashed (digest_place image.now) image.now)
-        → AgreeOnDigest asked result image.now }
+        → AgreeOnDigest requested result image.now }
 {
     match hashed {
-        Some(hashed) => hashed.remaining_test(image, asked),
-        None => asked,
+        Some(hashed) => hashed.remaining_test(image, requested),
+        None => requested,
     }
 }
 
@@ -112,12 +111,12 @@ pub(crate) struct Hashed {
 impl Hashed {
     /// Starts a hasher with the first bytes of an image. Returns None if the image has no checksum
     /// or it is not to be tested.
-    fn of_first(first: &[u8], asked: DigestTest) -> Option<Hashed>
+    fn of_first(first: &[u8], requested: DigestTest) -> Option<Hashed>
         requires { header_length ≤ length first.now }
         ensures { IfSome result (HasHashed (digest_place first.now) first.now) }
     {
         let header = read_header(first);
-        if asked == DigestTest::Skipped || header.bytes_after_sections() == 0 {
+        if requested == DigestTest::Skipped || header.bytes_after_sections() == 0 {
             return None;
         }
         let end = section_ends(&header)?[8];
@@ -146,15 +145,15 @@ impl Hashed {
         Hashed { end, hasher }
     }
 
-    /// Returns `Skipped` if the checksum of `image` is right, otherwise `asked`.
-    fn remaining_test(self, image: &[u8], asked: DigestTest) -> DigestTest
+    /// Returns `Skipped` if the checksum of `image` is right, otherwise `requested`.
+    fn remaining_test(self, image: &[u8], requested: DigestTest) -> DigestTest
         ensures { HasHashed (digest_place image.now) image.now self
-            → AgreeOnDigest asked result image.now }
+            → AgreeOnDigest requested result image.now }
     {
         if self.is_before_digest(image) {
             DigestTest::Skipped
         } else {
-            asked
+            requested
         }
     }
 

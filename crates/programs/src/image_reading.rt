@@ -44,11 +44,11 @@ impl ReadImage {
     /// requested.
     pub fn load(self, alloc: Global) -> Result<Dict, ImageFault>
         ensures dict { IfOk result (λ dict. dict ≡ self.bytes.items) }
-        ensures accepted { (asked : DigestTestOf) → AgreeOnDigest asked self.digest self.bytes.items
-            → OnOk result (IsAccepted asked self.bytes.items) }
-        ensures rejected { (asked : DigestTestOf) → AgreeOnDigest asked self.digest self.bytes.items
+        ensures accepted { (requested : DigestTestOf) → AgreeOnDigest requested self.digest self.bytes.items
+            → OnOk result (IsAccepted requested self.bytes.items) }
+        ensures rejected { (requested : DigestTestOf) → AgreeOnDigest requested self.digest self.bytes.items
             → IfErr result (λ fault.
-            (fault ≡ NoMemory) ⊎ IsImageFault asked self.bytes.items fault) }
+            (fault ≡ NoMemory) ⊎ IsImageFault requested self.bytes.items fault) }
         // An allocation fails only after the bytes have passed the tests that precede those of the
         // keys.
         ensures out_of_memory { IfErr result
@@ -122,7 +122,7 @@ pub fn read_image<R: io::Read>(
         ) => match check_head(&bytes, known) {
             Ok(reported) => {
                 let first = with_room(bytes, reported, known)?;
-                read_rest(reader, &mut buffer, first, reported, left, reading)
+                read_remainder(reader, &mut buffer, first, reported, left, reading)
             }
             Err(fault) => Err(ImageReadFault::Image(fault)),
         },
@@ -131,7 +131,7 @@ pub fn read_image<R: io::Read>(
 }
 
 /// Reads the bytes after `first`. `reported` is the total length that the header demands.
-fn read_rest<R: io::Read>(
+fn read_remainder<R: io::Read>(
     reader: &mut R,
     buffer: &mut [u8],
     first: Vec<u8>,

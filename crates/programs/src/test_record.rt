@@ -55,9 +55,9 @@ fn is_recorded(rt: &HostRuntime, path: &str) -> Result<bool, AllocError> {
     let Ok(image) = fs::metadata(rt, path) else {
         return Ok(false);
     };
-    let front = record_front(rt.alloc(), &image)?;
+    let prefix = record_prefix(rt.alloc(), &image)?;
     let record = record_path(rt.alloc(), path)?;
-    Ok(holds_record(rt, record.as_str(), front.as_str()))
+    Ok(holds_record(rt, record.as_str(), prefix.as_str()))
 }
 
 /// Returns whether `path` names a file directly in one of the image directories.
@@ -82,20 +82,20 @@ fn record_path(alloc: Global, path: &str) -> Result<String, AllocError> {
     Ok(record)
 }
 
-/// Returns whether the file at `path` is a record that begins with `front`.
-fn holds_record(rt: &HostRuntime, path: &str, front: &str) -> bool {
+/// Returns whether the file at `path` is a record that starts with `prefix`.
+fn holds_record(rt: &HostRuntime, path: &str, prefix: &str) -> bool {
     if !fs::metadata(rt, path).is_ok_and(|found| found.is_file() && found.len() < RECORD_MAX) {
         return false;
     }
     match WholeFile::read(rt, path) {
-        Ok(record) => is_record(&record.bytes, front.as_bytes()),
+        Ok(record) => is_record(&record.bytes, prefix.as_bytes()),
         Err(_) => false,
     }
 }
 
-/// Returns whether a record consists of `front`, 64 more bytes and a line feed.
-fn is_record(record: &[u8], front: &[u8]) -> bool {
-    match record.strip_prefix(front) {
+/// Returns whether a record consists of `prefix`, 64 more bytes and a line feed.
+fn is_record(record: &[u8], prefix: &[u8]) -> bool {
+    match record.strip_prefix(prefix) {
         Some(digits) => digits.len() == DIGITS && digits.ends_with(b"\n"),
         None => false,
     }
@@ -103,7 +103,7 @@ fn is_record(record: &[u8], front: &[u8]) -> bool {
 
 /// Returns the bytes of an image's record up to its SHA-256: the version of the record format, and
 /// the metadata that distinguish this file from every other one.
-fn record_front(alloc: Global, image: &Metadata) -> Result<String, AllocError> {
+fn record_prefix(alloc: Global, image: &Metadata) -> Result<String, AllocError> {
     let device = image.dev();
     let major = ((device >> 8) & 0xfff) | ((device >> 32) & 0xffff_f000);
     let minor = (device & 0xff) | ((device >> 12) & 0xffff_ff00);

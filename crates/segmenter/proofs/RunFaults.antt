@@ -15,7 +15,7 @@ use Rattle.image_format.specs.ImageMeaning.{image_tables}
 use Rattle.dict_compile.specs.SourceOverlays.{CompileTo, IsOfUser, IsUsersCause, IsUsersFault}
 use Rattle.mj_model.specs.SourceTables.{HaveSameMeaning}
 use Rattle.mj_model.specs.Tables.{Tables}
-use Rattle.dict_compile.specs.Results.{IsReportedFor as IsCompileToldFor}
+use Rattle.dict_compile.specs.Results.{IsReportedFor as IsCompileReportedFor}
 use Rattle.dict_compile.proofs.FirstFaults.{not_both_of, tables_are_one}
 use Rattle.line_stream.specs.Runs.{RunOutcome, StreamOutcome}
 use Rattle.line_stream.specs.LineErrors.{run_fault}
@@ -65,13 +65,13 @@ no_user_by fault reported i end (inr is) e = let clash : run.Source fault ≡ ru
 pub source_of_no_user : (fault reported : SourceFault) (i : ℕ) (end : RunFault) → IsRunFaultFor run.Source fault end → ◌≡◌ {A = Result ℕ RunFault} (Err end) (Err (run.UserSource i reported)) → ⊥
 source_of_no_user fault reported i end ends e = no_user_by fault reported i end ends.either (same_end end (run.UserSource i reported) e)
 
-first_by : (fault first : SourceFault) (end : RunFault) → ((end ≡ run.Memory 0) × (fault.kind ≡ Memory)) ⊎ ((end ≡ run.Source fault) × (fault.kind ≡ Memory → ⊥)) → IsCompileToldFor first fault → IsReportedFor (run.Source first) end
+first_by : (fault first : SourceFault) (end : RunFault) → ((end ≡ run.Memory 0) × (fault.kind ≡ Memory)) ⊎ ((end ≡ run.Source fault) × (fault.kind ≡ Memory → ⊥)) → IsCompileReportedFor first fault → IsReportedFor (run.Source first) end
 first_by fault first end (inl (memory, want)) t = inr (inl memory)
 first_by fault first end (inr is) (inl same) = inl (is.0 ∙ ap run.Source same)
 first_by fault first end (inr is) (inr (inl memory)) = absurd (is.1 memory)
 first_by fault first end (inr is) (inr (inr full)) = inr (inr (subst LacksCells (sym is.0) full))
 
-pub source_first : (fault first : SourceFault) (end : RunFault) → IsRunFaultFor run.Source fault end → IsCompileToldFor first fault → IsReportedFor (run.Source first) end
+pub source_first : (fault first : SourceFault) (end : RunFault) → IsRunFaultFor run.Source fault end → IsCompileReportedFor first fault → IsReportedFor (run.Source first) end
 source_first fault first end ends t = first_by fault first end ends.either t
 
 compiled_by : (s : Sources) (t : Tables) (fault : SourceFault) (first end : RunFault) → CompileTo s t → ((end ≡ run.Memory 0) × (fault.kind ≡ Memory)) ⊎ ((end ≡ run.Source fault) × (fault.kind ≡ Memory → ⊥))

@@ -57,6 +57,6 @@ pub fn segment<R: TextIn, W: TextOut>(
         dictionaries: *dictionaries,
         format,
     };
-    let mut kept = LineBuffers::new(alloc);
-    Ok(run_over(alloc, &printer, &mut kept, reader, writer, READS_MAX)?)
+    let mut buffers = LineBuffers::new(alloc);
+    Ok(run_over(alloc, &printer, &mut buffers, reader, writer, READS_MAX)?)
 }

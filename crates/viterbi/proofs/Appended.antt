@@ -92,19 +92,19 @@ part_of_both qs ss bs rs p q = record {
   in_order = λ v w s. elim (get_cases ss rs s.first v s.has_first) [
     | inl v_front ↦ elim (get_cases ss rs s.second w s.has_second) [
       | inl w_front ↦ appears_left qs bs v w (p.in_order v w (record { first = s.first; second = s.second; in_order = s.in_order; has_first = v_front; has_second = w_front }))
-      | inr w_behind ↦ appears_across qs bs v w (p.among v (Contains_from_get ss s.first v v_front)) (q.among w (Contains_from_get rs w_behind.0 w w_behind.2))
+      | inr w_after ↦ appears_across qs bs v w (p.among v (Contains_from_get ss s.first v v_front)) (q.among w (Contains_from_get rs w_after.0 w w_after.2))
     ]
-    | inr v_behind ↦ elim (get_cases ss rs s.second w s.has_second) [
+    | inr v_after ↦ elim (get_cases ss rs s.second w s.has_second) [
       | inl w_front ↦
           let low = slice_get_within ss s.second w w_front in
           let order = s.in_order in
-          let is = v_behind.1 in
+          let is = v_after.1 in
           absurd (omega (arith, low, order, is))
-      | inr w_behind ↦
+      | inr w_after ↦
           let order = s.in_order in
-          let is = v_behind.1 in
-          let also = w_behind.1 in
-          appears_right qs bs v w (q.in_order v w (record { first = v_behind.0; second = w_behind.0; in_order = omega (arith, order, is, also); has_first = v_behind.2; has_second = w_behind.2 }))
+          let is = v_after.1 in
+          let also = w_after.1 in
+          appears_right qs bs v w (q.in_order v w (record { first = v_after.0; second = w_after.0; in_order = omega (arith, order, is, also); has_first = v_after.2; has_second = w_after.2 }))
     ]
   ];
 }

@@ -52,8 +52,8 @@ module _ (t : SearchedText) (source : CanBeSearched t) (nodes : List LatticeNode
   pub none_from : (first : ℕ) → IsFirstFrom (words_in nodes) n.word.end first → NoneBefore first
   none_from first f = λ k m less at meet same. let low = f.before k m.word (word_here nodes k m at) less in omega (arith, low, meet)
 
-  pub none_more : (next : ℕ) (v : LatticeNode) (answer : Option Neighbor) → slice_get nodes next ≡ Some v → answer ≡ None → IsFollower t.connection n next v answer → NoneBefore next → NoneBefore (next + 1)
-  none_more next v answer there none is so_far = λ k m less at meet same. elim (cases_lt k next) [
+  pub none_more : (next : ℕ) (v : LatticeNode) (outcome : Option Neighbor) → slice_get nodes next ≡ Some v → outcome ≡ None → IsFollower t.connection n next v outcome → NoneBefore next → NoneBefore (next + 1)
+  none_more next v outcome there none is so_far = λ k m less at meet same. elim (cases_lt k next) [
     | inl low ↦ so_far k m low at meet same
     | inr le ↦
         (let is_v : m ≡ v = same_Some m v (sym at ∙ ap (slice_get nodes) (omega (arith, less, le)) ∙ there) in
@@ -90,8 +90,8 @@ module _ (t : SearchedText) (source : CanBeSearched t) (nodes : List LatticeNode
       → IsSuccessorAt t.words t.connection nodes i link
   found k m link at meet same node connection = λ x at_x. subst (λ (y : LatticeNode). IsAfterIfSome t.words t.connection nodes y y.through link) (same_Some n x (sym here ∙ at_x)) (found_from n.through k m link refl at meet same node connection)
 
-  pub found_by : (k : ℕ) (m : LatticeNode) (answer : Option Neighbor) (link : Neighbor) → slice_get nodes k ≡ Some m → m.word.place ≡ n.word.end → answer ≡ Some link → IsFollower t.connection n k m answer → IsSuccessorAt t.words t.connection nodes i link
-  found_by k m answer link at meet some is = let p = subst (IsFollower t.connection n k m) some is in found k m link at meet p.0 p.1 p.2
+  pub found_by : (k : ℕ) (m : LatticeNode) (outcome : Option Neighbor) (link : Neighbor) → slice_get nodes k ≡ Some m → m.word.place ≡ n.word.end → outcome ≡ Some link → IsFollower t.connection n k m outcome → IsSuccessorAt t.words t.connection nodes i link
+  found_by k m outcome link at meet some is = let p = subst (IsFollower t.connection n k m) some is in found k m link at meet p.0 p.1 p.2
 
   -- ---- no node that follows
 

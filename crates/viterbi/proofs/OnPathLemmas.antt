@@ -52,13 +52,13 @@ first_past path from place number low within past before = record {
 module _ (nodes : List LatticeNode) (path : List Word) where
   -- the first nodes are marked, and the words before a number are at positions before that of each
   -- other node
-  pub record AreToldTo (count next : ℕ) (on : List Bool) : Type 0 where
+  pub record AreMarkedTo (count next : ℕ) (on : List Bool) : Type 0 where
     pub long : length on ≡ count
     pub each : (i : ℕ) (n : LatticeNode) (b : Bool) → slice_get nodes i ≡ Some n → slice_get on i ≡ Some b → (b ≡ true) ↔ Contains path n.word
     pub within : next ≤ length path
     pub next_ones : (k i : ℕ) (w : Word) (n : LatticeNode) → k < next → count ≤ i → slice_get path k ≡ Some w → slice_get nodes i ≡ Some n → w.place < n.word.place
 
-  pub reported_none : AreToldTo 0 0 []
+  pub reported_none : AreMarkedTo 0 0 []
   reported_none = record {
     long = refl;
     each = λ i n b at_n at_b. absurd (cc);
@@ -66,7 +66,7 @@ module _ (nodes : List LatticeNode) (path : List Word) where
     next_ones = λ k i w n less low at_w at_n. absurd (omega (arith, less));
   }
 
-  module _ (by_place : AreByPlace nodes) (rising : HaveRisingPlaces path) (count next found : ℕ) (on after : List Bool) (n : LatticeNode) (answer : Bool) (at : slice_get nodes count ≡ Some n) (first : IsFirstAt path next n.word.place found) (is : IsWordAt path found n.word answer) (pushed : after ≡ on ++ answer ∷ []) (reported : AreToldTo count next on) where
+  module _ (by_place : AreByPlace nodes) (rising : HaveRisingPlaces path) (count next found : ℕ) (on after : List Bool) (n : LatticeNode) (outcome : Bool) (at : slice_get nodes count ≡ Some n) (first : IsFirstAt path next n.word.place found) (is : IsWordAt path found n.word outcome) (pushed : after ≡ on ++ outcome ∷ []) (reported : AreMarkedTo count next on) where
     -- a word before it is at an earlier position
     before_it : (k : ℕ) (w : Word) → k < found → slice_get path k ≡ Some w → w.place < n.word.place
     before_it k w less at_w = elim (cases_lt k next) [
@@ -94,10 +94,10 @@ module _ (nodes : List LatticeNode) (path : List Word) where
           | inr (inr more) ↦ absurd (after_it g.0 more g.1)
         ]
 
-    pub reported_more : AreToldTo (count + 1) found after
+    pub reported_more : AreMarkedTo (count + 1) found after
     reported_more = record {
-      long = let e = reported.long in ap length pushed ∙ (let more = length_push on answer in omega (arith, more, e));
-      each = λ i m b at_m at_b. elim (get_push_cases on answer i b (ap (λ (xs : List Bool). slice_get xs i) (sym pushed) ∙ at_b)) [
+      long = let e = reported.long in ap length pushed ∙ (let more = length_push on outcome in omega (arith, more, e));
+      each = λ i m b at_m at_b. elim (get_push_cases on outcome i b (ap (λ (xs : List Bool). slice_get xs i) (sym pushed) ∙ at_b)) [
         | inl old ↦ reported.each i m b at_m old
         | inr new ↦
             (let same : n ≡ m = same_Some n m (sym at ∙ ap (slice_get nodes) (sym (new.0 ∙ reported.long)) ∙ at_m) in
@@ -113,7 +113,7 @@ module _ (nodes : List LatticeNode) (path : List Word) where
     }
 
   -- all nodes
-  pub reported_all : (next : ℕ) (on : List Bool) → AreToldTo (length nodes) next on → AreOnPath nodes path on
+  pub reported_all : (next : ℕ) (on : List Bool) → AreMarkedTo (length nodes) next on → AreOnPath nodes path on
   reported_all next on reported = record { long = reported.long; each = reported.each }
 
 -- ---- the nodes of a lattice and the words of a path are in order

@@ -62,8 +62,8 @@ pub no_result : (found : List CachedPredecessor) (left : ℕ) → IsUncached fou
 no_result found left new predecessor = (λ e. absurd (cc), λ c. let y : CachedPredecessor = record { left = left; predecessor = predecessor } in let g = get_from_Contains found y c in absurd (new g.0 y g.1 refl))
 
 -- and if nothing is returned, it is not cached
-pub new_where_none : (found : List CachedPredecessor) (left : ℕ) (answer : Option Predecessor) → IsCacheResult found left answer → answer ≡ None → IsUncached found left
-new_where_none found left answer is none i x at same =
+pub new_where_none : (found : List CachedPredecessor) (left : ℕ) (outcome : Option Predecessor) → IsCacheResult found left outcome → outcome ≡ None → IsUncached found left
+new_where_none found left outcome is none i x at same =
     let c : Contains found (record { left = left; predecessor = x.predecessor }) = subst (λ (l : ℕ). Contains found (record { left = l; predecessor = x.predecessor })) same (Contains_from_get found i x at) in
-    let e : answer ≡ Some x.predecessor = (is x.predecessor).1 c in
+    let e : outcome ≡ Some x.predecessor = (is x.predecessor).1 c in
     absurd (cc)

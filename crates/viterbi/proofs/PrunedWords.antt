@@ -136,7 +136,7 @@ module _ (conn : ℕ → ℕ → ℤ) (ends : List EndNode) (ws : List Word) (wo
       let in_kept : slice_get kept r ≡ Some f.word = map_at (word_by ws) left r e s.2 ∙ ap Some (word_is (l.rank r) e there) in
       let serves = s.3 in
       let found = λ (more : (e.total <ℤ x.total) ⊎ ((e.total ≡ x.total) × IsEarlierIn ws f.word w)).
-      let answer : IsReplaced conn ends ws kept w = record {
+      let outcome : IsReplaced conn ends ws kept w = record {
         word = f.word;
         there = Contains_from_get kept r f.word in_kept;
         end = one_end f.word w (Contains_from_get ws (l.rank r) f.word f.here) h;
@@ -146,7 +146,7 @@ module _ (conn : ℕ → ℕ → ℤ) (ends : List EndNode) (ws : List Word) (wo
         has_cost = f.cost;
         has_own = subst (λ (u : Word). HasForwardCost conn ends u x.total) own_is own.cost;
         no_more = more;
-      } in answer in
+      } in outcome in
       elim serves.cost [
         | inl less ↦ inr (found (inl less))
         | inr same ↦ elim (cases_lt (l.rank r) i) [

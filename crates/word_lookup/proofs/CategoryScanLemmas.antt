@@ -122,8 +122,8 @@ ends_after info text growth_started r first is from one =
     let long : 1 + r.following ≡ (1 + 0) + r.following = omega arith in
     let all = ap (λ (k : ℕ). bytes_of k cs) long in
     let ends = is.ends in
-    let begun_ends = first.ends in
-    omega (arith, ends, begun_ends, same, few, join, all, from)
+    let started_ends = first.ends in
+    omega (arith, ends, started_ends, same, few, join, all, from)
 
 -- a part with more characters
 pub further_run : (info : ℕ → CharInfo) (text rest : List ℕ) (r : CategoryScan) (left n bytes : ℕ) (last : CharInfo) (whole : Bool) → IsCategoryScan info text r → rest ≡ drop r.to text

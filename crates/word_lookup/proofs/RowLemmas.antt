@@ -20,10 +20,10 @@ use Rattle.word_lookup.specs.EntryWords.{entry_word}
 use Rattle.word_lookup.specs.Surfaces.{word_with, words_among, words_by_ids}
 
 -- the index of an entry is its number
-abbrev pub StandsAtNumber : List Token → Token → Type 0
-StandsAtNumber all e = slice_get all e.number ≡ Some e
+abbrev pub LiesAtNumber : List Token → Token → Type 0
+LiesAtNumber all e = slice_get all e.number ≡ Some e
 
-pub row_is : (all es : List Token) (first count : ℕ) → map (λ (t : Token). t.number) es ≡ range_with_len first count → AllByRecursion (StandsAtNumber all) es → take count (drop first all) ≡ es
+pub row_is : (all es : List Token) (first count : ℕ) → map (λ (t : Token). t.number) es ≡ range_with_len first count → AllByRecursion (LiesAtNumber all) es → take count (drop first all) ≡ es
 row_is all [] first zero numbers appear = refl
 row_is all [] first (suc n) numbers appear = absurd (let long = ap length numbers in omega (arith, long))
 row_is all (t ∷ ts) first zero numbers appear = absurd (let long = ap length numbers in omega (arith, long))
@@ -42,8 +42,8 @@ place_in [] x h = absurd h
 place_in (y ∷ ys) x (inl e) = (0, ap Some e)
 place_in (y ∷ ys) x (inr h) = let r = place_in ys x h in (suc r.0, r.1)
 
-appear_at_numbers : (all part : List Token) → ((i : ℕ) (e : Token) → slice_get all i ≡ Some e → e.number ≡ i) → ((e : Token) → IsMember part e → IsMember all e) → AllByRecursion (StandsAtNumber all) part
-appear_at_numbers all part numbered within = each_holds (StandsAtNumber all) part (λ e h.
+appear_at_numbers : (all part : List Token) → ((i : ℕ) (e : Token) → slice_get all i ≡ Some e → e.number ≡ i) → ((e : Token) → IsMember part e → IsMember all e) → AllByRecursion (LiesAtNumber all) part
+appear_at_numbers all part numbered within = each_holds (LiesAtNumber all) part (λ e h.
     let at = place_in all e (within e h) in
     ap (slice_get all) (numbered at.0 e at.1) ∙ at.1)
 
@@ -51,7 +51,7 @@ abbrev token_of : Lexeme → Token
 token_of e = e.token
 
 -- the entries of a surface
-pub known_appear : (t : Tables) (key : List ℕ) → AreFitting t → AllByRecursion (StandsAtNumber (numbered_tokens t)) (entries_under key t.lexicon)
+pub known_appear : (t : Tables) (key : List ℕ) → AreFitting t → AllByRecursion (LiesAtNumber (numbered_tokens t)) (entries_under key t.lexicon)
 known_appear t key fits =
     let has = λ (e : Lexeme). bytes_eq e.surface key in appear_at_numbers (numbered_tokens t) (entries_under key t.lexicon) fits.numbered (λ e h.
     let l = in_map token_of (filter has t.lexicon) e h in
@@ -66,7 +66,7 @@ up_to_in (suc n) i less = elim (cases_lt i n) [
 ]
 
 -- the entries of a category
-pub unknown_appear : (t : Tables) (i : ℕ) → AreFitting t → i < length t.categories → AllByRecursion (StandsAtNumber (numbered_tokens t)) (t.unknown i)
+pub unknown_appear : (t : Tables) (i : ℕ) → AreFitting t → i < length t.categories → AllByRecursion (LiesAtNumber (numbered_tokens t)) (t.unknown i)
 unknown_appear t i fits less =
     let f = λ (n : ℕ). t.unknown (n - 1) in
     let one : suc i - 1 ≡ i = omega arith in
@@ -80,7 +80,7 @@ unknown_appear t i fits less =
 pub record IsPrefix (n : ℕ) (all : List Token) (prefix : ℕ × List Token) : Type 0 where
   pub within : prefix.0 ≤ n
   pub some : 0 < length prefix.1
-  pub appear : AllByRecursion (StandsAtNumber all) prefix.1
+  pub appear : AllByRecursion (LiesAtNumber all) prefix.1
 
 pub prefixes_are : (text : List ℕ) (t : Tables) → AreFitting t → AllByRecursion (IsPrefix (length text) (numbered_tokens t)) (prefixes_in text t.lexicon)
 prefixes_are text t fits = each_holds (IsPrefix (length text) (numbered_tokens t)) (prefixes_in text t.lexicon) (λ prefix h.
@@ -91,7 +91,7 @@ prefixes_are text t fits = each_holds (IsPrefix (length text) (numbered_tokens t
     record {
       within = omega (arith, low, same);
       some = ltb-true 0 (length prefix.1) f.1;
-      appear = subst (λ (p : ℕ × List Token). AllByRecursion (StandsAtNumber (numbered_tokens t)) p.1) m.2 (known_appear t (take m.0 text) fits);
+      appear = subst (λ (p : ℕ × List Token). AllByRecursion (LiesAtNumber (numbered_tokens t)) p.1) m.2 (known_appear t (take m.0 text) fits);
     })
 
 -- ---- one entry of a row

@@ -20,7 +20,7 @@ use Rattle.mj_model.specs.Surfaces.{AreSurfacesOf, IsWhole, IsWordOf, HasSameSpa
 use Rattle.word_lookup.specs.Surfaces.{GrowsByWords, surface_words, tokens_of}
 use Rattle.word_lookup.specs.SurfacesHere.{surface_here}
 use Rattle.word_lookup.proofs.AppendLemmas.{prefix_kept}
-use Rattle.word_lookup.proofs.RowLemmas.{StandsAtNumber, row_is, row_within}
+use Rattle.word_lookup.proofs.RowLemmas.{LiesAtNumber, row_is, row_within}
 
 pub none_grown : (o : Overlay) (xs : List Surface) → GrowsByWords o [] xs xs
 none_grown o xs = ([], record { joined = refl; whole = tt }, sym (append-nil xs))
@@ -93,7 +93,7 @@ all_appear s [] = tt
 all_appear s (e ∷ es) = (record { place = refl; start = refl; end = refl }, all_appear s es)
 
 pub one_surface : (o : Overlay) (s : Surface) (es : List Token) (before : List Surface) (words : List Word) → map (λ (t : Token). t.number) es ≡ range_with_len s.first s.count
-    → AllByRecursion (StandsAtNumber (tokens_of o s.list)) es → 0 < length es → map (entry_word s.list s.place s.start s.end) es ≡ words → GrowsByWords o words before (before ++ s ∷ [])
+    → AllByRecursion (LiesAtNumber (tokens_of o s.list)) es → 0 < length es → map (entry_word s.list s.place s.start s.end) es ≡ words → GrowsByWords o words before (before ++ s ∷ [])
 one_surface o s es before words numbers appear some are =
     let f = entry_word s.list s.place s.start s.end in
     let same : surface_words o s ≡ map f es = ap (map f) (row_is (tokens_of o s.list) es s.first s.count numbers appear) in
@@ -130,7 +130,7 @@ one_word o s one i is whole less =
 
 -- the surface of a row that was appended
 pub surface_appended : (o : Overlay) (at : WordStart) (list : EntryList) (row : EntryRange) (end : ℕ) (s : Surface) (es : List Token) (before after : List Surface) (words : List Word) → s ≡ surface_here at list row end → after ≡ before ++ s ∷ []
-    → map (λ (t : Token). t.number) es ≡ range_with_len row.first row.count → AllByRecursion (StandsAtNumber (tokens_of o list)) es → 0 < length es → map (entry_word list at.place at.start end) es ≡ words → GrowsByWords o words before after
+    → map (λ (t : Token). t.number) es ≡ range_with_len row.first row.count → AllByRecursion (LiesAtNumber (tokens_of o list)) es → 0 < length es → map (entry_word list at.place at.start end) es ≡ words → GrowsByWords o words before after
 surface_appended o at list row end s es before after words is now numbers appear some are =
     subst (GrowsByWords o words before) (sym (now ∙ ap (λ (t : Surface). before ++ t ∷ []) is)) (one_surface o (surface_here at list row end) es before words numbers appear some are)
 

@@ -75,7 +75,7 @@ fn command_of(
     match matches.subcommand() {
         Some((name, given)) if name == IDS => Ok(Command::Ids(ids_options(alloc, given)?)),
         Some((name, given)) => Ok(Command::Image(image_options(alloc, name, given)?)),
-        None => Err(OptionsFault::wrong(alloc, NAME, texts.hint_of(NO_SUBCOMMAND))),
+        None => Err(OptionsFault::usage_error(alloc, NAME, texts.hint_of(NO_SUBCOMMAND))),
     }
 }
 

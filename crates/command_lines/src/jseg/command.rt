@@ -62,7 +62,7 @@ fn command_of(
     texts: &Texts<'_>,
 ) -> Result<Command, OptionsFault> {
     match hint_for(matches) {
-        Some(key) => Err(OptionsFault::wrong(alloc, NAME, texts.hint_of(key))),
+        Some(key) => Err(OptionsFault::usage_error(alloc, NAME, texts.hint_of(key))),
         None if matches.get_flag("dictionaries") => Ok(Command::ListImages {
             verbose: matches.get_flag("verbose"),
         }),
@@ -95,7 +95,7 @@ fn choices(
     texts: &Texts<'_>,
 ) -> Result<Options, OptionsFault> {
     let Some(input) = input(alloc, matches)? else {
-        return Err(OptionsFault::wrong(alloc, NAME, texts.hint_of(NO_INPUT)));
+        return Err(OptionsFault::usage_error(alloc, NAME, texts.hint_of(NO_INPUT)));
     };
     let mut options = Options {
         input,
@@ -163,7 +163,7 @@ fn lattice(
     let within = matches.get_one("within");
     let Some(name) = matches.get_str("lattice") else {
         return match within {
-            Some(_) => Err(OptionsFault::wrong(alloc, NAME, texts.hint_of(NO_LATTICE))),
+            Some(_) => Err(OptionsFault::usage_error(alloc, NAME, texts.hint_of(NO_LATTICE))),
             None => Ok(None),
         };
     };

@@ -27,7 +27,7 @@ use Rattle.dict_image.specs.Validation.Values.{HoldEach, ArePlaces}
 
 -- Ok if all tests pass, otherwise the error of the first test that does not
 abbrev pub PassOrFault : {X : Type 0} → List Test → Result X ImageFault → Type 0
-PassOrFault tests answer = MatchResult answer (λ _. PassAll tests) (IsFirstFault tests)
+PassOrFault tests outcome = MatchResult outcome (λ _. PassAll tests) (IsFirstFault tests)
 
 -- out of memory, or the error of the first test that does not pass
 abbrev pub MemoryOrFault : List Test → ImageFault → Type 0
@@ -35,19 +35,19 @@ MemoryOrFault tests fault = (fault ≡ Memory) ⊎ IsFirstFault tests fault
 
 -- Ok if all tests pass, otherwise out of memory or the first error
 abbrev pub PassFaultOrMemory : {X : Type 0} → List Test → Result X ImageFault → Type 0
-PassFaultOrMemory tests answer = MatchResult answer (λ _. PassAll tests) (MemoryOrFault tests)
+PassFaultOrMemory tests outcome = MatchResult outcome (λ _. PassAll tests) (MemoryOrFault tests)
 
 -- the header of bytes that pass the first tests, otherwise their first error
 abbrev pub PrefixResult : List ℕ → Result Header ImageFault → Type 0
-PrefixResult bytes answer =
-    MatchResult answer (λ header. PassAll (prefix_tests (header_of bytes) bytes) × (header ≡ header_of bytes))
+PrefixResult bytes outcome =
+    MatchResult outcome (λ header. PassAll (prefix_tests (header_of bytes) bytes) × (header ≡ header_of bytes))
     (IsFirstFault (prefix_tests (header_of bytes) bytes))
 
 -- the ends of the sections of bytes that pass the tests of the length and the SHA-256, otherwise
 -- the first error
 abbrev pub EndsResult : DigestTest → List ℕ → Result (List ℕ) ImageFault → Type 0
-EndsResult digest bytes answer =
-    MatchResult answer (λ ends. PassAll (end_tests digest (header_of bytes) bytes) × AreEnds ends (header_of bytes) × (section_end (header_of bytes) 8 ≤ length bytes))
+EndsResult digest bytes outcome =
+    MatchResult outcome (λ ends. PassAll (end_tests digest (header_of bytes) bytes) × AreEnds ends (header_of bytes) × (section_end (header_of bytes) 8 ≤ length bytes))
     (IsFirstFault (end_tests digest (header_of bytes) bytes))
 
 -- the least number below `n` for which `Fact` does not hold, or None if it holds for all
@@ -73,14 +73,14 @@ PassAt groups bytes starts = PassAll (key_tests key.Listed groups bytes) × AreS
 
 -- the method of looking up keys, or their first error
 abbrev pub KeysResult : KeyForm → ℕ → List ℕ → Result Keys ImageFault → Type 0
-KeysResult form groups bytes answer =
-    MatchResult answer (λ keys. PassAll (key_tests form groups bytes) × AreKeysOf form groups bytes keys)
+KeysResult form groups bytes outcome =
+    MatchResult outcome (λ keys. PassAll (key_tests form groups bytes) × AreKeysOf form groups bytes keys)
     (MemoryOrFault (key_tests form groups bytes))
 
 -- the method of looking up the keys of an image whose sections pass their tests, or the first error
 abbrev pub SectionsResult : Header → List ℕ → Result Keys ImageFault → Type 0
-SectionsResult h bytes answer =
-    MatchResult answer (λ keys. PassAll (section_tests h bytes) × AreKeysOf (key_form h.layout) h.groups (section bytes 5) keys)
+SectionsResult h bytes outcome =
+    MatchResult outcome (λ keys. PassAll (section_tests h bytes) × AreKeysOf (key_form h.layout) h.groups (section bytes 5) keys)
     (MemoryOrFault (section_tests h bytes))
 
 -- the role of cell `t`, or None if it breaks the rules

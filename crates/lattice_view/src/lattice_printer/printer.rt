@@ -41,21 +41,22 @@ impl<'d> LinePrinter for LatticePrinter<'d> {
 
     ghost line_result = { λ p. LatticeLineResult p.format (overlay_of p.dictionaries) };
 
-    fn append_line(&self, kept: &mut LatticeBuffers, text: &str, out: &mut Vec<u8>) -> Appended {
+    fn append_line(&self, buffers: &mut LatticeBuffers, text: &str, out: &mut Vec<u8>) -> Appended {
         let dictionaries = &self.dictionaries;
-        kept.line
+        buffers
+            .line
             .lattice
-            .fill_best(dictionaries, text, &mut kept.line.path)?;
+            .fill_best(dictionaries, text, &mut buffers.line.path)?;
         let MarkedLattice { nodes, on_best } = marked_lattice(
             self.alloc,
             dictionaries,
             text,
-            &kept.line.path.words,
+            &buffers.line.path.words,
         )?;
         let lattice = LineLattice {
             dictionaries,
             text,
-            best: kept.line.path.total,
+            best: buffers.line.path.total,
             nodes: &nodes,
             on_best: &on_best,
         };
@@ -63,7 +64,7 @@ impl<'d> LinePrinter for LatticePrinter<'d> {
             format: self.format,
             lattice: &lattice,
         };
-        sheet.append(&mut kept.field, out)
+        sheet.append(&mut buffers.field, out)
     }
 
     ghost too_long = { λ p line h. h };

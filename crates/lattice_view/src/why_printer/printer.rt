@@ -23,14 +23,16 @@ impl<'d> LinePrinter for WhyPrinter<'d> {
 
     ghost line_result = { λ p. WhyLineResult (overlay_of p.dictionaries) };
 
-    fn append_line(&self, kept: &mut LineBuffers, text: &str, out: &mut Vec<u8>) -> Appended {
+    fn append_line(&self, buffers: &mut LineBuffers, text: &str, out: &mut Vec<u8>) -> Appended {
         let dictionaries = &self.dictionaries;
-        kept.lattice.fill_best(dictionaries, text, &mut kept.path)?;
-        let rivals = rivals_over(self.alloc, dictionaries, text, &kept.path.words)?;
+        buffers
+            .lattice
+            .fill_best(dictionaries, text, &mut buffers.path)?;
+        let rivals = rivals_over(self.alloc, dictionaries, text, &buffers.path.words)?;
         let line = ExplainedLine {
             dictionaries,
             text,
-            path: &kept.path,
+            path: &buffers.path,
         };
         let sheet = LineExplanation {
             alloc: self.alloc,

@@ -23,12 +23,12 @@ impl<'d, 'f> LinePrinter for WordsPrinter<'d, 'f> {
 
     ghost line_result = { λ p. LineResult (overlay_of p.dictionaries) p.format.now };
 
-    fn append_line(&self, kept: &mut LineBuffers, text: &str, out: &mut Vec<u8>) -> Appended {
+    fn append_line(&self, buffers: &mut LineBuffers, text: &str, out: &mut Vec<u8>) -> Appended {
         let line = DictionaryText {
             dictionaries: &self.dictionaries,
             text,
         };
-        let found = kept.lattice.find_best(&line)?;
+        let found = buffers.lattice.find_best(&line)?;
         print_words(
             self.format,
             &self.dictionaries,

@@ -30,7 +30,7 @@ pub(crate) fn words_in(rt: &HostRuntime, dir: &str, text: &str) -> io::Result<Ve
 }
 
 /// Returns whether `line` is printed for `compiled`.
-pub(crate) fn is_told(alloc: Global, compiled: &Compiled, line: &str) -> bool {
+pub(crate) fn is_printed(alloc: Global, compiled: &Compiled, line: &str) -> bool {
     let mut reported = Vec::new(alloc);
     print_counts(compiled, &mut reported).is_ok() && reported.as_slice() == line.as_bytes()
 }

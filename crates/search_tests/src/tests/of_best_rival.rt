@@ -43,8 +43,8 @@ fn rivals_of_words(rt: HostRuntime) -> Result<(), Fail> {
     let rows = [
         // (what, position, end, the rival's number and cost)
         ("one that ends before it",          0, 9,  Some((1, 200))),
-        ("one that ends behind it",          9, 12, Some((4, 152))),
-        ("one that begins before it",       12, 15, Some((4, 152))),
+        ("one that ends after it",           9, 12, Some((4, 152))),
+        ("one that starts before it",       12, 15, Some((4, 152))),
         ("two in its place",                 9, 15, Some((3, 169))),
         ("of two with one end the cheaper",  0, 6,  Some((0, 152))),
         ("no dead end",                      6, 15, Some((0, 152))),

@@ -116,7 +116,7 @@ fn expect_letters(
     let words = letters(rt.alloc(), length)?;
     let before = sums_of(path);
     if fill(rt.alloc(), search, length, &words, path).is_err() {
-        assert!(rt; sums_of(path) == before, "after a refusal");
+        assert!(rt; sums_of(path) == before, "after a failure");
         fill(rt.alloc(), search, length, &words, path)?;
     }
     assert!(rt; sums_of(path) == (usize::from(length), total), "{length}");

@@ -54,7 +54,7 @@ static LATTICES: [(&str, u16, &[WordRow], &[NodeRow]); 9] = [
     // 10 + 27 = 37, and 37 + 5 = 42. Of equal paths the best is the one whose last differing word
     // has the later position.
     (
-        "words of a place stand together",
+        "words of a position are adjacent",
         2,
         &[A, B, AB],
         &[

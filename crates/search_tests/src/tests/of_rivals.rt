@@ -110,7 +110,7 @@ static RIVALS: [(&str, u16, &[WordRow], &[(StepRow, Option<RivalRow>)]); 9] = [
     ),
     // 10 + 0 = 10, 10 + 7 + 0 = 17; 20, 37 and 54
     (
-        "the word that takes the place of the last one stands in the middle",
+        "the word that replaces the last one is in the middle",
         4,
         &[(0, 2, 0), (2, 4, 0), A, BC, (3, 4, 10)],
         &[

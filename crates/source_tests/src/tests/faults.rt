@@ -2,7 +2,7 @@
 //! allocation failure.
 
 use super::of_char_def::samples::{TWELVE, chars_of, joined_again, unk_fault};
-use super::of_lex_source::records::fault_behind;
+use super::of_lex_source::records::fault_after;
 use File::{Chars, FirstLexicon, MoreChars, MoreUnk, Nineteenth, OtherLexicon};
 use mj_model::SourceKind::{
     self, BadLine, BadNumber, BadRange, Memory, NoDefault, NoSpace, NoSuchCategory, NotUtf8,
@@ -37,7 +37,7 @@ type Row = (File, &'static str, &'static [u8], u64, SourceKind);
 
 /// Texts that are rejected.
 #[rattlefmt::skip]
-static REFUSED: [Row; 44] = [
+static REJECTED: [Row; 44] = [
     (Chars,        "no bytes",                     b"", 0, NoDefault),
     (Chars,        "no SPACE",                     b"DEFAULT 0 1 0\n", 0, NoSpace),
     (Chars,        "no DEFAULT",                   b"SPACE 0 1 0\n0x41 OTHER\n", 0, NoDefault),
@@ -59,7 +59,7 @@ static REFUSED: [Row; 44] = [
     (MoreChars,    "a second line of a name",      b"KANJI 0 0 2", 13, Twice),
     (MoreChars,    "no such category",             b"0x3007 OTHER", 13, UndefinedCategory),
     (MoreChars,    "blanks around the full stops", b"0x41 .. 0x42", 13, UndefinedCategory),
-    (MoreChars,    "a bad line behind",            b"0x3007 OTHER\nSYMBOL", 14, BadLine),
+    (MoreChars,    "a bad line after",             b"0x3007 OTHER\nSYMBOL", 14, BadLine),
     (Nineteenth,   "a 19th category",              b"M 0 0 0\n", 25, TooManyCategories),
     (Nineteenth,   "a bad line for a 19th",        b"M 0 0 16\n", 25, BadLine),
     (Nineteenth,   "a second line for a 19th",     b"L 0 0 0\n", 25, Twice),
@@ -69,7 +69,7 @@ static REFUSED: [Row; 44] = [
     (MoreUnk,      "an empty name",                b",1,1,1,Y\n", 7, NoSuchCategory),
     (MoreUnk,      "an empty name and a bad number", b",x,1,1,Y\n", 7, BadNumber),
     (MoreUnk,      "the first bad line",           b"OTHER,1,1,1,Y\nKANJI\n", 7, NoSuchCategory),
-    (MoreUnk,      "behind a good line",           b"KANJI,1,1,1,Y\nKANJI\n", 8, TooFewFields),
+    (MoreUnk,      "after a good line",            b"KANJI,1,1,1,Y\nKANJI\n", 8, TooFewFields),
     (OtherLexicon, "an open quote",                b"\"ab,1,1,10,X", 1, TooFewFields),
     (OtherLexicon, "not UTF-8",                    b"a,1,1,5,X\n\xff,1,1,5,X", 2, NotUtf8),
     (OtherLexicon, "four fields",                  b"a,1,1,5", 1, TooFewFields),
@@ -79,17 +79,17 @@ static REFUSED: [Row; 44] = [
     (OtherLexicon, "no cost",                      b"a,1,1,,X", 1, BadNumber),
     (OtherLexicon, "a quote in a right id",        b"a,1,\"1\"\"\",5,X", 1, BadNumber),
     (FirstLexicon, "an open quote",                b"\"ab,1,1,10,X\n", 1, TooFewFields),
-    (FirstLexicon, "one behind a line",            b"\"a,b\",1,1,10,X\n\"ab,1,1,10,X\n", 2,
+    (FirstLexicon, "one after a line",             b"\"a,b\",1,1,10,X\n\"ab,1,1,10,X\n", 2,
         TooFewFields),
-    (FirstLexicon, "a low cost behind it",         b"\"a\"\"b\",1,1,-32768,X\na,1,1,-32769,X\n", 2,
+    (FirstLexicon, "a low cost after it",          b"\"a\"\"b\",1,1,-32768,X\na,1,1,-32769,X\n", 2,
         BadNumber),
-    (FirstLexicon, "not UTF-8 behind it", b"\n,1,1,5,X\n\"a,b\",1,1,20,Y\r\n\xff,1,1,5,X", 4,
+    (FirstLexicon, "not UTF-8 after it", b"\n,1,1,5,X\n\"a,b\",1,1,20,Y\r\n\xff,1,1,5,X", 4,
         NotUtf8),
 ];
 
 /// Returns the test cases. A call keeps the table out of the caller's proof.
 fn rows() -> &'static [Row] {
-    &REFUSED
+    &REJECTED
 }
 
 /// Returns the source number of `file`.
@@ -126,8 +126,8 @@ fn fault_of_chars(
     others: &[u8],
     text: &[u8],
 ) -> Result<Option<SourceFault>, Fail> {
-    let begin = joined_again(rt, sample().chars, others)?;
-    Ok(chars_of(rt, &joined_again(rt, &begin, text)?)?.err())
+    let start = joined_again(rt, sample().chars, others)?;
+    Ok(chars_of(rt, &joined_again(rt, &start, text)?)?.err())
 }
 
 /// Returns the error of `text`, if it has one.
@@ -141,7 +141,7 @@ fn fault_of(
         MoreChars => fault_of_chars(rt, b"", text),
         Nineteenth => fault_of_chars(rt, TWELVE, text),
         MoreUnk => unk_fault(rt, &joined_again(rt, sample().unk, text)?),
-        FirstLexicon | OtherLexicon => fault_behind(rt, number_of(file), text),
+        FirstLexicon | OtherLexicon => fault_after(rt, number_of(file), text),
     }
 }
 

@@ -1,6 +1,6 @@
 //! Cells that grow, and allocation failures.
 //!
-//! Allocations fail under `tests/out_of_memory/run.py`, which expects the line `rejected` on
+//! Allocations fail under `tests/out_of_memory/run.py`, which expects the line `refused` on
 //! standard error.
 use cells::{CELLS_MAX, Cells};
 use std::alloc::{Alloc, AllocError, Global};

@@ -70,11 +70,11 @@ static LISTED: [(&str, &str, i16); 13] = [
     ("blanks and tabs",              " \t  1 \t\t 1  \n  0 \t  0\t\t   -9  \t  ",     -9),
     ("blanks alone",                 "1 1\n0 0 7\n   \t   ",                          7),
     ("zeros",                        "001 0000001\n00 000 000000000000000012",        12),
-    ("zeros behind a sign",          "+001 +01\n-000 +00 -00000000000000032768",      -32_768),
+    ("zeros after a sign",           "+001 +01\n-000 +00 -00000000000000032768",      -32_768),
     ("zeros within a number",        "1 1\n0 0 10001",                                10_001),
     ("a carriage return at the end", "1 1\n0 0 5\r",                                  5),
     ("blanks before it",             "1 1\n0 0 5  \r",                                5),
-    ("a row behind a long one",      "1 1\n00 00 00005   \n0  0   6",                 6),
+    ("a row after a long one",       "1 1\n00 00 00005   \n0  0   6",                 6),
 ];
 
 /// Returns the cost of the ids 0 and 0 in a matrix.

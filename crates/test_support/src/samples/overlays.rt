@@ -36,8 +36,8 @@ impl TwoDicts {
     }
 
     /// Returns the dictionary that a test case names.
-    pub fn of(&self, asked: TestDictionary) -> &Dict {
-        match asked {
+    pub fn of(&self, requested: TestDictionary) -> &Dict {
+        match requested {
             TestDictionary::Sample => &self.sample,
             TestDictionary::Letters => &self.letters,
         }

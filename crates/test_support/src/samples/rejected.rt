@@ -1,6 +1,6 @@
 //! Dictionaries that are compiled and loaded again after an allocation failure.
 //!
-//! Allocations fail under `tests/out_of_memory/run.py`, which expects the line `rejected` on
+//! Allocations fail under `tests/out_of_memory/run.py`, which expects the line `refused` on
 //! standard error.
 
 use crate::again;

@@ -8,15 +8,15 @@ use std::alloc::Global;
 /// The result of a run, the bytes it wrote, and the number of reads it made.
 #[derive(Drop)]
 pub struct Outcome {
-    pub answer: Result<u64, RunFault>,
+    pub returned: Result<u64, RunFault>,
     pub written: Vec<u8>,
     pub reads: u64,
 }
 
 impl Outcome {
     /// Returns whether the run failed with `fault` before its first read, with nothing written.
-    pub fn is_refusal(&self, fault: RunFault) -> bool {
-        self.answer == Err(fault) && self.reads == 0 && self.written.is_empty()
+    pub fn is_rejection(&self, fault: RunFault) -> bool {
+        self.returned == Err(fault) && self.reads == 0 && self.written.is_empty()
     }
 }
 
@@ -26,7 +26,7 @@ pub fn run(alloc: Global, sources: &Sources<'_>, users: &[&[&[u8]]], text: &[u8]
     match Format::default_of(alloc) {
         Ok(format) => run_in(alloc, &format, sources, users, text),
         Err(_) => Outcome {
-            answer: Err(RunFault::Memory(0)),
+            returned: Err(RunFault::Memory(0)),
             written: Vec::new(alloc),
             reads: 0,
         },
@@ -45,7 +45,7 @@ pub fn run_in(
     let mut reader = Counted::new(text);
     let mut written = Vec::new(alloc);
     let mut writer = Counted::new(&mut written);
-    let answer = run_sources(
+    let returned = run_sources(
         alloc,
         sources,
         users,
@@ -55,7 +55,7 @@ pub fn run_in(
         &mut writer,
     );
     Outcome {
-        answer,
+        returned,
         written,
         reads: reader.reads(),
     }

@@ -1,18 +1,18 @@
 //! Retries after an allocation failure.
 
-/// Evaluates `$call`, and once more if the result matches `$refusal`.
+/// Evaluates `$call`, and once more if the result matches `$rejected`.
 ///
-/// Before the retry it prints `rejected` on standard error. `tests/out_of_memory/run.py`, under
+/// Before the retry it prints `refused` on standard error. `tests/out_of_memory/run.py`, under
 /// which allocations fail, expects that line.
 #[macro_export]
 macro_rules! again {
-    ($rt:expr, $refusal:pat, $call:expr) => {
+    ($rt:expr, $rejected:pat, $call:expr) => {
         match $call {
-            $refusal => {
+            $rejected => {
                 $rt.eprintln("refused")?;
                 $call
             }
-            answer => answer,
+            returned => returned,
         }
     };
 }

@@ -4,6 +4,6 @@
 
 mod faults;
 mod formats;
-mod refusals;
+mod rejected;
 mod samples;
 mod words;

@@ -34,7 +34,7 @@ fn expect_bounded(
     format: &Format,
     what: &str,
     text: &str,
-    answer: Result<u64, StreamFault>,
+    expected: Result<u64, StreamFault>,
 ) -> Result<(), Fail> {
     let system = system_dict(rt.alloc(), &sample())?;
     let printer = WordsPrinter {
@@ -48,7 +48,7 @@ fn expect_bounded(
     });
     let mut out = Counted::new(Vec::new(rt.alloc()));
     let got = run_over(rt.alloc(), &printer, &mut kept, &mut input, &mut out, 4);
-    assert!(rt; got == answer, "{what}");
+    assert!(rt; got == expected, "{what}");
     assert!(rt;
         out.get_ref().as_slice() == "ab\t未知\nEOS\n".as_bytes(),
         "{what}"
@@ -66,8 +66,8 @@ static BOUND_ON_READS: [(&str, &str, Result<u64, StreamFault>); 2] = [
 #[test]
 fn bound_on_reads(rt: HostRuntime) -> Result<(), Fail> {
     let format = Format::default_of(rt.alloc())?;
-    for (what, text, answer) in &BOUND_ON_READS {
-        expect_bounded(&rt, &format, what, text, *answer)?;
+    for (what, text, expected) in &BOUND_ON_READS {
+        expect_bounded(&rt, &format, what, text, *expected)?;
     }
     Ok(())
 }

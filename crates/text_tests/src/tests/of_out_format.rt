@@ -35,7 +35,7 @@ static NODE_TEXTS: [NodeRow; 38] = [
     ("a backslash at the end", "a\\", Some((1, BadEscape))),
     ("no such escape", "\\q", Some((0, BadEscape))),
     ("an escaped character of two bytes", "é\\é", Some((2, BadEscape))),
-    ("a backslash behind an escaped one", "\\\\\\", Some((2, BadEscape))),
+    ("a backslash after an escaped one", "\\\\\\", Some((2, BadEscape))),
     ("a percent sign at the end", "ab%", Some((2, BadItem))),
     ("bad_items", "%f[9]|%f[0]|%%\\s%q", Some((16, BadItem))),
     ("%p at the end", "%p", Some((0, BadItem))),
@@ -65,7 +65,7 @@ static NODE_TEXTS: [NodeRow; 38] = [
     ("an index that is too great", "%f[65536]", Some((0, BadIndex))),
     ("five digits", "%f[00001]", None),
     ("six digits", "%f[000001]", Some((0, BadIndex))),
-    ("a field behind text", "名%f[1]%f[", Some((8, BadIndex))),
+    ("a field after text", "名%f[1]%f[", Some((8, BadIndex))),
 ];
 
 #[test]
@@ -100,8 +100,8 @@ static PARTS_OF_FORMATS: [PartsRow; 14] = [
     ("the cost before the first word", ("%m", None, "%pc", ""), Some((Bos, 0, BadItem))),
     ("a field before the first word", ("", None, "%f[0]", ""), Some((Bos, 0, BadItem))),
     ("%f alone before the first word", ("", None, "%f", ""), Some((Bos, 0, BadItem))),
-    ("items of words behind the last", ("", None, "", "%m"), Some((Eos, 0, BadItem))),
-    ("a field behind the last word", ("", None, "", "a%f[0]"), Some((Eos, 1, BadItem))),
+    ("items of words after the last", ("", None, "", "%m"), Some((Eos, 0, BadItem))),
+    ("a field after the last word", ("", None, "", "a%f[0]"), Some((Eos, 1, BadItem))),
     ("escapes of the line", ("", None, "\\t", "\\q"), Some((Eos, 0, BadEscape))),
     ("the part of unknown words", ("", Some("%s\\"), "", ""), Some((Unk, 2, BadEscape))),
     ("node before unk", ("%", Some("\\"), "%", "%"), Some((Node, 0, BadItem))),
@@ -150,8 +150,8 @@ fn expect_items(rt: &(impl Abort + Alloc<A = Global>), rows: &[ItemRow]) -> Resu
         assert!(rt; same, "{text}");
         let before = Format::parse(rt.alloc(), "", None, text, "");
         assert_eq!(rt; before.is_ok(), *bos, "{text}");
-        let behind = Format::parse(rt.alloc(), "", None, "", text);
-        assert_eq!(rt; behind.is_ok(), *eos, "{text}");
+        let after = Format::parse(rt.alloc(), "", None, "", text);
+        assert_eq!(rt; after.is_ok(), *eos, "{text}");
     }
     Ok(())
 }

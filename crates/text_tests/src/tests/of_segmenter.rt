@@ -8,6 +8,6 @@ mod long_output;
 mod older_images;
 mod older_systems;
 mod out_of_memory;
-mod refusals;
+mod rejected;
 mod rows;
 mod users;

@@ -11,11 +11,11 @@ returns c =
     let line = c.args.line.now in
     let before = c.args.at.now in
     let at = c.result_with_size.new.at in
-    let rejected : IfErr c.call-answer.result (IsCallError old (λ _. IsLineError line)) = search rules in
+    let rejected : IfErr c.call-outcome.result (IsCallError old (λ _. IsLineError line)) = search rules in
     record {
       accepted = search rules;
       done = search rules;
-      rejected = reports_placed old line IsLineError before at (line_placed line before at) c.call-answer.result c.result_with_size.result c.result_with_size.ensures.code rejected c.result_with_size.ensures.place;
+      rejected = reports_placed old line IsLineError before at (line_placed line before at) c.call-outcome.result c.result_with_size.result c.result_with_size.ensures.code rejected c.result_with_size.ensures.place;
       kept = search rules;
       size_unset = search rules;
       at_unset = search rules;

@@ -15,8 +15,8 @@ returns-clause-out_of_memory c = λ reported.
     let digest = c.skipped_if-digest.result in
     let image = c.borrowed-image.result in
     let old = segmenter_in c.args.segmenter.now in
-    let answer = c.call-answer.result in
-    let rejected : IfErr answer (IsCallError old (IsUserFault digest image)) = search rules in
-    let starved : IfErr answer (λ (fault : CallFault). fault ≡ Segment Memory → PassesTestsBeforeKeys digest image) = search rules in
-    let passed = user_out_of_memory digest image old answer c.result_with_number.result c.result_with_number.ensures.code rejected starved reported in
+    let outcome = c.call-outcome.result in
+    let rejected : IfErr outcome (IsCallError old (IsUserFault digest image)) = search rules in
+    let no_memory : IfErr outcome (λ (fault : CallFault). fault ≡ Segment Memory → PassesTestsBeforeKeys digest image) = search rules in
+    let passed = user_out_of_memory digest image old outcome c.result_with_number.result c.result_with_number.ensures.code rejected no_memory reported in
     subst (λ (d : DigestTest). PassesTestsBeforeKeys d c.args.image.bytes) c.skipped_if-digest.ensures (subst (λ (bytes : List ℕ). PassesTestsBeforeKeys digest bytes) (c.borrowed-image.ensures ∙ c.of.ensures) passed)

@@ -5,5 +5,5 @@ use Rattle.dictc_lib.proofs.file_line.up_to_feed.Goals as goal
 
 pub returns-in-Some : goal.returns-in-Some
 returns-in-Some c =
-    let cut = cut_parts line_feed c.args.rest.now c.in-Some.line.now c.in-Some._behind.now c.in-Some.ensures in
-    (cut.1, inr (c.in-Some._behind.now, cut.0))
+    let cut = cut_parts line_feed c.args.rest.now c.in-Some.line.now c.in-Some._after.now c.in-Some.ensures in
+    (cut.1, inr (c.in-Some._after.now, cut.0))

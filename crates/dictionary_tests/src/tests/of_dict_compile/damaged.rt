@@ -83,7 +83,7 @@ fn changes_before_the_digest(rt: HostRuntime) -> Result<(), Fail> {
 }
 
 #[test]
-fn changes_behind_the_digest(rt: HostRuntime) -> Result<(), Fail> {
+fn changes_after_the_digest(rt: HostRuntime) -> Result<(), Fail> {
     let image = sample_image(rt.alloc())?;
     for (what, at, byte, _, unsealed) in rows() {
         let fault = fault_with(rt.alloc(), &image, *at, *byte, false)?;

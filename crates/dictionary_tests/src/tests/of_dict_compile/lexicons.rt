@@ -23,7 +23,7 @@ static SUMOMO: [(&str, &[Expected]); 8] = [
 ];
 
 /// The number of entries, the number of skipped lines, and whether a key has the expected entries.
-type Answer = (u64, u128, bool);
+type Outcome = (u64, u128, bool);
 
 /// Returns whether the dictionary of `image` has `entries` at `key`.
 fn has_entries(
@@ -36,12 +36,12 @@ fn has_entries(
 }
 
 /// Compiles `sources` and looks up `key`, which should have `entries`.
-fn answer(
+fn outcome_of(
     alloc: Global,
     sources: &Sources<'_>,
     key: &str,
     entries: &[Expected],
-) -> Result<Answer, Fail> {
+) -> Result<Outcome, Fail> {
     let compiled = compiled_of(alloc, sources)?;
     let (count, skipped) = (compiled.entries, compiled.skipped);
     let has_entries = has_entries(alloc, compiled.image, key, entries)?;
@@ -78,7 +78,7 @@ fn sumomo(rt: HostRuntime) -> Result<(), Fail> {
 type Prefix = (usize, &'static str);
 
 /// Returns whether the next entry has the feature `feature`.
-fn begins_with(entries: &mut Entries<'_>, feature: &str) -> bool {
+fn is_next(entries: &mut Entries<'_>, feature: &str) -> bool {
     match entries.next() {
         Some(entry) => entry.feature == feature,
         None => false,
@@ -92,7 +92,7 @@ fn are_prefixes(dict: &Dict, text: &str, expected: &[Prefix]) -> bool {
         let Some((found, mut entries)) = prefixes.next() else {
             return false;
         };
-        if found != *length || !begins_with(&mut entries, feature) {
+        if found != *length || !is_next(&mut entries, feature) {
             return false;
         }
     }
@@ -118,7 +118,7 @@ fn expect_prefixes(rt: &impl Abort, dict: &Dict) {
 }
 
 #[test]
-fn surfaces_that_begin_a_text(rt: HostRuntime) -> Result<(), Fail> {
+fn surfaces_that_start_a_text(rt: HostRuntime) -> Result<(), Fail> {
     expect_prefixes(&rt, &sample_dict(rt.alloc())?);
     Ok(())
 }
@@ -147,21 +147,21 @@ static TWO_LEXICONS: [(&str, &str, &str, u64, u128, &str, &[Expected]); 11] = [
 ];
 
 /// Compiles two lexicons and looks up `key`, which should have `entries`.
-fn answer_of_two(
+fn outcome_of_two(
     alloc: Global,
     first: &str,
     second: &str,
     key: &str,
     entries: &[Expected],
-) -> Result<Answer, Fail> {
+) -> Result<Outcome, Fail> {
     let lexicons = [first.as_bytes(), second.as_bytes()];
-    answer(alloc, &with_lexicons(&lexicons), key, entries)
+    outcome_of(alloc, &with_lexicons(&lexicons), key, entries)
 }
 
 #[test]
 fn two_lexicons(rt: HostRuntime) -> Result<(), Fail> {
     for (what, first, second, count, skipped, key, entries) in &TWO_LEXICONS {
-        let found = answer_of_two(rt.alloc(), first, second, key, entries)?;
+        let found = outcome_of_two(rt.alloc(), first, second, key, entries)?;
         assert!(rt; found == (*count, *skipped, true), "{what}");
     }
     Ok(())
@@ -204,8 +204,8 @@ fn has_costs(alloc: Global, matrix: &str, sizes: MatrixSizes, costs: &[u8]) -> R
         ..with_lexicons(&lexicons)
     };
     let image = compiled_of(alloc, &sources)?.image;
-    let begins = image.get(104..).unwrap_or(b"").starts_with(costs);
-    Ok(begins && has_sizes(&dict_of(alloc, image)?, sizes))
+    let has_start = image.get(104..).unwrap_or(b"").starts_with(costs);
+    Ok(has_start && has_sizes(&dict_of(alloc, image)?, sizes))
 }
 
 #[test]

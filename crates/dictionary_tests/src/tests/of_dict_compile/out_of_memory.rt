@@ -1,6 +1,6 @@
 //! Allocation failures.
 //!
-//! Allocations fail under `tests/out_of_memory/run.py`, which expects the line `rejected` on
+//! Allocations fail under `tests/out_of_memory/run.py`, which expects the line `refused` on
 //! standard error.
 use crate::tests::samples::{Expected, NONE, are_entries, compiled_of, dict_of, user_of};
 use dict_compile::{CompileUserFault, Compiled};

@@ -53,7 +53,7 @@ fn accepted_lexicons(rt: HostRuntime) -> Result<(), Fail> {
 
 /// Lexicons that are rejected.
 #[rattlefmt::skip]
-static REFUSED: [(&str, &str, &str, u32, u64, SourceKind); 4] = [
+static REJECTED: [(&str, &str, &str, u32, u64, SourceKind); 4] = [
     // (what, the two lexicons, file, line, kind)
     ("a left id outside",     "も,3,1,20,X\n",             "",                  3, 1, IdOutside),
     ("a right id outside",    "も,2,1,20,X\n",             "\nも,1,2,20,X\n",   4, 2, IdOutside),
@@ -63,7 +63,7 @@ static REFUSED: [(&str, &str, &str, u32, u64, SourceKind); 4] = [
 
 #[test]
 fn invalid_lexicons(rt: HostRuntime) {
-    for (what, first, second, file, line, kind) in &REFUSED {
+    for (what, first, second, file, line, kind) in &REJECTED {
         let fault = counts(rt.alloc(), first, second).err();
         assert!(rt; fault == Some(kind.at(*file, *line)), "{what}");
     }

@@ -53,8 +53,8 @@ static USERS: [(&str, &str, &str, u64, u128, &str, &[Expected]); 6] = [
 /// Checks the user dictionaries for `system`.
 fn expect_users(rt: &(impl Abort + Alloc<A = Global>), system: &Dict) -> Result<(), Fail> {
     for (what, first, second, count, skipped, key, entries) in &USERS {
-        let answer = compiled(rt.alloc(), system, first, second, key, entries)?;
-        assert!(rt; answer == (*count, *skipped, true), "{what}");
+        let result = compiled(rt.alloc(), system, first, second, key, entries)?;
+        assert!(rt; result == (*count, *skipped, true), "{what}");
     }
     Ok(())
 }
@@ -68,7 +68,7 @@ const ACCEPTED: &str = "もも,2,1,1,X\n";
 
 /// Pairs of lexicons that are rejected.
 #[rattlefmt::skip]
-static REFUSED: [(&str, &str, &str, u32, u64, SourceKind); 4] = [
+static REJECTED: [(&str, &str, &str, u32, u64, SourceKind); 4] = [
     // (what, the two lexicons, file, line, kind)
     ("a right id outside",    "もも,1,2,1,X\n", "",                       3, 1, IdOutside),
     ("a left id outside",     ACCEPTED, "もも,1,1,1,X\nもも,3,1,1,X\n",   4, 2, IdOutside),
@@ -102,8 +102,8 @@ fn user_dict(alloc: Global, system: &Dict, lexicon: &str) -> Result<Dict, Fail> 
 }
 
 /// Checks the errors of lexicons for `system`.
-fn expect_refused(rt: &(impl Abort + Alloc<A = Global>), system: &Dict) {
-    for (what, first, second, file, line, kind) in &REFUSED {
+fn expect_rejected(rt: &(impl Abort + Alloc<A = Global>), system: &Dict) {
+    for (what, first, second, file, line, kind) in &REJECTED {
         let fault = fault_of_two(rt.alloc(), system, first, second);
         assert!(rt; fault == Some(Source(kind.at(*file, *line))), "{what}");
     }
@@ -112,7 +112,7 @@ fn expect_refused(rt: &(impl Abort + Alloc<A = Global>), system: &Dict) {
 #[test]
 fn invalid_lexicons(rt: HostRuntime) -> Result<(), Fail> {
     let system = system_2_3(rt.alloc())?;
-    expect_refused(&rt, &system);
+    expect_rejected(&rt, &system);
     let sizes = user_dict(rt.alloc(), &system, ACCEPTED)?.matrix_sizes();
     assert!(rt; sizes == MatrixSizes { right: 2, left: 3 });
     Ok(())
@@ -123,7 +123,7 @@ fn invalid_lexicons(rt: HostRuntime) -> Result<(), Fail> {
 static LEXICONS: [(&str, &str); 2] = [
     // (what, lexicon)
     ("an accepted line", LINE),
-    ("a refused line", "もも,1,1,x,X\n"),
+    ("a rejected line", "もも,1,1,x,X\n"),
 ];
 
 #[test]

@@ -74,7 +74,7 @@ static CELLS: [Row; 12] = [
     ("cell 1 is (-1, 98)",       &[(112, b"\xff\xff\xff\xff\x62\0\0\0")], Some(BadSection(5))),
     ("cell 1 is (-2, 99)",       &[(112, b"\xfe\xff\xff\xff\x63\0\0\0")], Some(BadSection(5))),
     ("cell 1 is (0, -1)",        &[(112, b"\0\0\0\0\xff\xff\xff\xff")], Some(BadSection(5))),
-    ("cell 1 behind the root",   &[(116, b"\0\0\0\0")],                 Some(BadKey(0))),
+    ("cell 1 after the root",    &[(116, b"\0\0\0\0")],                 Some(BadKey(0))),
     ("cell 99 is (1, 99)",       &[(896, b"\x01\0\0\0\x63\0\0\0")],     Some(BadKey(0))),
     ("cell 0 is (1, 0)",         &[(104, b"\x01\0\0\0\0\0\0\0")],       Some(BadSection(5))),
     ("value 0 in cells 1 and 2", VALUE_IN_2,                            Some(BadSection(5))),

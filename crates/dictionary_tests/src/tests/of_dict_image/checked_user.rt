@@ -8,8 +8,8 @@ use std::test::Fail;
 /// Changes of the image whose checksum is computed after the change.
 #[rattlefmt::skip]
 static CHANGES: [Row; 2] = [
-    ("layout 1, with 32 bytes behind it", &[(8, b"\x01")], Some(BadSection(9))),
-    ("layout 2, with 32 bytes behind it", &[(8, b"\x02")], Some(BadSection(9))),
+    ("layout 1, with 32 bytes after it", &[(8, b"\x01")], Some(BadSection(9))),
+    ("layout 2, with 32 bytes after it", &[(8, b"\x02")], Some(BadSection(9))),
 ];
 
 #[test]
@@ -24,7 +24,7 @@ fn changes_before_the_digest(rt: HostRuntime) -> Result<(), Fail> {
 
 /// Changes of the image that keep its old checksum.
 #[rattlefmt::skip]
-static BEHIND_THE_DIGEST: [Row; 6] = [
+static AFTER_THE_DIGEST: [Row; 6] = [
     ("kind",                     &[(12, b"\0")],            Some(Digest)),
     ("a free cell",              &[(200, b"\x01")],         Some(Digest)),
     ("token",                    &[(914, b"\x02")],         Some(Digest)),
@@ -34,8 +34,8 @@ static BEHIND_THE_DIGEST: [Row; 6] = [
 ];
 
 #[test]
-fn changes_behind_the_digest(rt: HostRuntime) -> Result<(), Fail> {
-    expect_faults(&rt, Changed::Sealed, &BEHIND_THE_DIGEST)
+fn changes_after_the_digest(rt: HostRuntime) -> Result<(), Fail> {
+    expect_faults(&rt, Changed::Sealed, &AFTER_THE_DIGEST)
 }
 
 /// Lengths that are shorter than the image.

@@ -1,7 +1,7 @@
 //! Truncated images, and images with one changed byte. The loader must agree with the plain reader
 //! on each.
 use super::images::user_image;
-use super::lookups::answers_all;
+use super::lookups::passes_all_lookups;
 use super::plain_reader::{first_fault, frame_fault};
 use crate::tests::samples::{dict_of, fault_of, fault_of_front, with_byte};
 use mj_model::ImageFault::{self, BadMagic, BadSection, Digest, Truncated};
@@ -33,19 +33,19 @@ fn shorter_images(rt: HostRuntime) -> Result<(), Fail> {
 
 /// Returns whether the loader agrees with the plain reader on `image`, and its dictionary passes
 /// all lookups.
-fn answers_plainly(alloc: Global, image: &[u8]) -> Result<bool, AllocError> {
+fn agrees_with_plain_reader(alloc: Global, image: &[u8]) -> Result<bool, AllocError> {
     let expected = first_fault(alloc, image)?;
     Ok(match dict_of(alloc, Vec::from_slice(alloc, image)?) {
         Err(fault) => expected == Some(fault),
-        Ok(dict) => expected.is_none() && answers_all(&dict, image),
+        Ok(dict) => expected.is_none() && passes_all_lookups(&dict, image),
     })
 }
 
 /// Returns the first position at which the loader disagrees with the plain reader after a change to
 /// `byte`.
-fn other_answer(alloc: Global, bytes: &[u8], byte: u8) -> Result<Option<usize>, AllocError> {
+fn disagreement(alloc: Global, bytes: &[u8], byte: u8) -> Result<Option<usize>, AllocError> {
     for place in 0..bytes.len() {
-        if !answers_plainly(alloc, &with_byte(alloc, bytes, place, byte)?)? {
+        if !agrees_with_plain_reader(alloc, &with_byte(alloc, bytes, place, byte)?)? {
             return Ok(Some(place));
         }
     }
@@ -54,9 +54,9 @@ fn other_answer(alloc: Global, bytes: &[u8], byte: u8) -> Result<Option<usize>, 
 
 /// Returns the first position at which the loader disagrees with the plain reader after a change to
 /// one of four values, and that value.
-fn other_answer_to_any(alloc: Global, bytes: &[u8]) -> Result<Option<(usize, u8)>, AllocError> {
+fn disagreement_of_any(alloc: Global, bytes: &[u8]) -> Result<Option<(usize, u8)>, AllocError> {
     for byte in [0, 1, 0x80, 0xff] {
-        if let Some(place) = other_answer(alloc, bytes, byte)? {
+        if let Some(place) = disagreement(alloc, bytes, byte)? {
             return Ok(Some((place, byte)));
         }
     }
@@ -66,14 +66,14 @@ fn other_answer_to_any(alloc: Global, bytes: &[u8]) -> Result<Option<(usize, u8)
 #[test]
 fn changed_bytes_of_layout_1(rt: HostRuntime) -> Result<(), Fail> {
     let bytes = user_image(rt.alloc(), 1)?;
-    assert_eq!(rt; other_answer_to_any(rt.alloc(), &bytes)?, None);
+    assert_eq!(rt; disagreement_of_any(rt.alloc(), &bytes)?, None);
     Ok(())
 }
 
 #[test]
 fn changed_bytes_of_layout_2(rt: HostRuntime) -> Result<(), Fail> {
     let bytes = user_image(rt.alloc(), 2)?;
-    assert_eq!(rt; other_answer_to_any(rt.alloc(), &bytes)?, None);
+    assert_eq!(rt; disagreement_of_any(rt.alloc(), &bytes)?, None);
     Ok(())
 }
 
@@ -89,7 +89,7 @@ fn fault_at(place: usize, changed: &[u8]) -> Option<ImageFault> {
 }
 
 /// Returns whether the image of layout 3 with `byte` at `place` is rejected for that error.
-fn is_refused_with(
+fn is_rejected_with(
     alloc: Global,
     image: &[u8],
     place: usize,
@@ -105,8 +105,8 @@ fn flipped_bits_of_layout_3(rt: HostRuntime) -> Result<(), Fail> {
     let bytes = user_image(rt.alloc(), 3)?;
     assert_eq!(rt; bytes.len(), 961);
     for (place, byte) in bytes.iter().enumerate() {
-        let is_refused = is_refused_with(rt.alloc(), &bytes, place, *byte ^ 1)?;
-        assert!(rt; is_refused, "{place}");
+        let is_rejected = is_rejected_with(rt.alloc(), &bytes, place, *byte ^ 1)?;
+        assert!(rt; is_rejected, "{place}");
     }
     // Layout 2 has no checksum.
     let layout_2 = with_byte(rt.alloc(), &bytes, 8, 2)?;
@@ -118,7 +118,7 @@ fn flipped_bits_of_layout_3(rt: HostRuntime) -> Result<(), Fail> {
 /// a change to `byte`.
 fn other_fault(alloc: Global, image: &[u8], byte: u8) -> Result<Option<usize>, AllocError> {
     for (place, old) in image.iter().enumerate() {
-        if *old != byte && !is_refused_with(alloc, image, place, byte)? {
+        if *old != byte && !is_rejected_with(alloc, image, place, byte)? {
             return Ok(Some(place));
         }
     }

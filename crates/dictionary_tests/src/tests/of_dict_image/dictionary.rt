@@ -63,7 +63,7 @@ static TEXTS: [(&str, &[(usize, u32)], u64); 4] = [
 ];
 
 #[test]
-fn keys_that_begin_a_text(rt: HostRuntime) -> Result<(), Fail> {
+fn keys_that_start_a_text(rt: HostRuntime) -> Result<(), Fail> {
     let dict = dict_of_a(rt.alloc())?;
     for (text, prefixes, reads) in &TEXTS {
         assert!(rt; are_prefixes(&dict, text, prefixes, *reads), "{text}");
@@ -73,7 +73,7 @@ fn keys_that_begin_a_text(rt: HostRuntime) -> Result<(), Fail> {
 
 /// Images of another length, or with another byte.
 #[rattlefmt::skip]
-static REFUSED: [(&str, usize, &[u8], ImageFault); 3] = [
+static REJECTED: [(&str, usize, &[u8], ImageFault); 3] = [
     // (what, how many bytes are kept, the bytes after them, the error)
     ("the last byte left out", 960, b"",  ImageFault::Truncated),
     ("a byte more",            961, b"\0",          ImageFault::BadSection(9)),
@@ -90,7 +90,7 @@ fn fault_with(alloc: Global, length: usize, more: &[u8]) -> Result<Option<ImageF
 
 #[test]
 fn invalid_images(rt: HostRuntime) -> Result<(), Fail> {
-    for (what, length, more, fault) in &REFUSED {
+    for (what, length, more, fault) in &REJECTED {
         let found = fault_with(rt.alloc(), *length, more)?;
         assert_eq!(rt; found, Some(*fault), "{what}");
     }

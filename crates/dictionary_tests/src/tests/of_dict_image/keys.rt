@@ -17,7 +17,7 @@ fn base_of(state: u8) -> i64 {
 }
 
 /// Returns the cell that a step leads to.
-fn cell_behind(from: u8, byte: u8) -> i64 {
+fn cell_after(from: u8, byte: u8) -> i64 {
     257 * i64::from(from) + i64::from(byte) + 2
 }
 
@@ -25,7 +25,7 @@ fn cell_behind(from: u8, byte: u8) -> i64 {
 fn cell_of(steps: &[Step], state: u8) -> i64 {
     for (from, byte, to) in steps {
         if *to == state {
-            return cell_behind(*from, *byte);
+            return cell_after(*from, *byte);
         }
     }
     0
@@ -42,7 +42,7 @@ fn cell_at(steps: &[Step], values: &[Value], number: i64) -> (i64, i64) {
         }
     }
     for (from, byte, to) in steps {
-        if cell_behind(*from, *byte) == number {
+        if cell_after(*from, *byte) == number {
             return (base_of(*to), cell_of(steps, *from));
         }
     }
@@ -147,8 +147,8 @@ static KEYS: [(&str, &[&[u8]], Option<ImageFault>); 19] = [
     ("ED A0 80: a surrogate",       &[b"\xED\xA0\x80"],                   Some(BadKey(0))),
     ("F0 8F BF BF: U+FFFF in four", &[b"\xF0\x8F\xBF\xBF"],               Some(BadKey(0))),
     ("F4 90 80 80: past U+10FFFF",  &[b"\xF4\x90\x80\x80"],               Some(BadKey(0))),
-    ("F5 begins no character",      &[b"\xF5\x80\x80\x80"],               Some(BadKey(0))),
-    ("80 begins no character",      &[b"\x80"],                           Some(BadKey(0))),
+    ("F5 starts no character",      &[b"\xF5\x80\x80\x80"],               Some(BadKey(0))),
+    ("80 starts no character",      &[b"\x80"],                           Some(BadKey(0))),
     ("E3 81 82, E3 81, E3",         &[b"\xE3\x81\x82", b"\xE3\x81", b"\xE3"], Some(BadKey(1))),
     ("a, FF a, FF b",               &[b"a", b"\xFFa", b"\xFFb"],           Some(BadKey(1))),
     ("E3 a: a tail wanted; a E3",   &[b"a", b"\xE3a", b"a\xE3"],           Some(BadKey(1))),

@@ -14,7 +14,7 @@ pub(crate) fn is_user_with(dict: &Dict, key: &str, cost: i16, other: &str) -> bo
 }
 
 /// Returns whether the next entry has the token `token`.
-fn begins_with(entries: &mut Entries<'_>, token: u32) -> bool {
+fn is_next(entries: &mut Entries<'_>, token: u32) -> bool {
     match entries.next() {
         Some(entry) => entry.token == token,
         None => false,
@@ -30,7 +30,7 @@ pub(crate) fn are_prefixes(dict: &Dict, text: &str, expected: &[(usize, u32)], r
         let Some((found, mut entries)) = prefixes.next() else {
             return false;
         };
-        if found != *length || !begins_with(&mut entries, *token) {
+        if found != *length || !is_next(&mut entries, *token) {
             return false;
         }
     }
@@ -41,7 +41,7 @@ pub(crate) fn are_prefixes(dict: &Dict, text: &str, expected: &[(usize, u32)], r
 static TEXTS: [&str; 6] = ["", "a", "ab", "も", "ももa", "\0"];
 
 /// Returns whether all lookups in `dict` succeed, and read the cells that the plain reader counts.
-pub(crate) fn answers_all(dict: &Dict, image: &[u8]) -> bool {
+pub(crate) fn passes_all_lookups(dict: &Dict, image: &[u8]) -> bool {
     for text in &TEXTS {
         let reads = reads_for(image, text.as_bytes());
         if !has_prefixes(dict, text, reads) || !has_few_entries(dict, text) {

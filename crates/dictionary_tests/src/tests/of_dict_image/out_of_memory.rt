@@ -1,6 +1,6 @@
 //! Images of user dictionaries under allocation failures.
 //!
-//! Allocations fail under `tests/out_of_memory/run.py`, which expects the line `rejected` on
+//! Allocations fail under `tests/out_of_memory/run.py`, which expects the line `refused` on
 //! standard error.
 use super::images::user_image;
 use super::lookups::is_user_with;

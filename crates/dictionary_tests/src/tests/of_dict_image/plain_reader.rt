@@ -238,11 +238,11 @@ fn are_cells(cells: &[u8], groups: i64) -> bool {
         && check_of(cells, 0) == Some(-2)
         && cells.len() % 8 == 0
         && cells.len() / 8 <= 1 << 30
-        && are_cells_behind(cells, groups)
+        && are_cells_after_root(cells, groups)
 }
 
 /// Returns whether all cells after the root are valid.
-fn are_cells_behind(cells: &[u8], groups: i64) -> bool {
+fn are_cells_after_root(cells: &[u8], groups: i64) -> bool {
     for number in 1..(cells.len() / 8) as i64 {
         if !is_cell(cells, groups, number) {
             return false;
@@ -279,7 +279,7 @@ fn has_key(alloc: Global, cells: &[u8], place: i64) -> Result<bool, AllocError> 
 }
 
 /// Returns whether each value below `groups` is in exactly one cell.
-fn stand_once(cells: &[u8], groups: u32) -> bool {
+fn appear_once(cells: &[u8], groups: u32) -> bool {
     for value in 0..groups {
         if value_cells(cells, i64::from(value)).0 != 1 {
             return false;
@@ -292,7 +292,7 @@ fn stand_once(cells: &[u8], groups: u32) -> bool {
 fn cells_fault(alloc: Global, bytes: &[u8]) -> Result<Option<ImageFault>, AllocError> {
     let cells = section(bytes, 5);
     let groups = u32_at(bytes, 28);
-    if !are_cells(cells, i64::from(groups)) || !stand_once(cells, groups) {
+    if !are_cells(cells, i64::from(groups)) || !appear_once(cells, groups) {
         return Ok(Some(BadSection(5)));
     }
     for value in 0..groups {

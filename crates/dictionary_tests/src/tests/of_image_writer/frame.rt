@@ -8,7 +8,7 @@ use std::alloc::{AllocError, Global};
 use std::test::Fail;
 
 /// The header of a user dictionary for 2 right ids and 2 left ids, up to the length of section 5.
-static HEADER_BEGIN: [u8; 72] =
+static HEADER_START: [u8; 72] =
     *b"MJDICT\r\n\x03\0\0\0\x01\0\0\0\x02\0\0\0\x02\0\0\0\0\0\0\0\x01\0\0\0\x01\0\0\0\0\0\0\0\
     \0\0\0\0\0\0\0\0\0\0\0\0\0\0\0\0\0\0\0\0\0\0\0\0\0\0\0\0\0\0\0\0";
 
@@ -21,7 +21,7 @@ static SECTIONS: [u8; 25] = *b"\0\0\0\0\x01\0\0\0\x01\0\x01\0\x01\0\0\0\0\0\0\0\
 /// Returns the image without its checksum, with `cells` as section 5.
 fn body_with(alloc: Global, cells: &[u8]) -> Result<Vec<u8>, AllocError> {
     let mut body = Vec::new(alloc);
-    body.extend_from_slice(&HEADER_BEGIN)?;
+    body.extend_from_slice(&HEADER_START)?;
     body.extend_from_slice(&(cells.len() as u64).to_le_bytes())?;
     body.extend_from_slice(&HEADER_END)?;
     body.extend_from_slice(cells)?;

@@ -13,7 +13,7 @@ static HEADER: &[u8; 40] =
     b"MJDICT\r\n\x03\0\0\0\0\0\0\0\x02\0\0\0\x02\0\0\0\x06\0\0\0\x03\0\0\0\x03\0\0\0\x06\0\0\0";
 
 /// The lengths of sections 1 to 4.
-static BEGIN_LENGTHS: &[u8; 32] =
+static START_LENGTHS: &[u8; 32] =
     b"\x08\0\0\0\0\0\0\0\x3e\0\0\0\0\0\0\0\x68\0\0\0\0\0\0\0\x1c\0\0\0\0\0\0\0";
 
 /// The lengths of sections 6 to 8.
@@ -22,7 +22,7 @@ static END_LENGTHS: &[u8; 24] = b"\x10\0\0\0\0\0\0\0\x90\0\0\0\0\0\0\0\x2d\0\0\0
 /// Sections 1 to 4: the costs of right id 0 and of right id 1; the categories; for each range its
 /// first code point, its set of categories and its first category; the first unknown entry of each
 /// category.
-static BEGIN: &[u8; 202] = b"\0\0\x0a\0\x05\0\x07\0\
+static START: &[u8; 202] = b"\0\0\x0a\0\x05\0\x07\0\
     \0\x01\0\x07DEFAULT\0\x01\0\x05SPACE\x01\x01\0\x05ALPHA\
     \x01\x01\x02\x08KATAKANA\0\0\x02\x05KANJI\0\x01\x02\x08HIRAGANA\
     \0\0\0\0\x01\0\0\0\x20\0\0\0\x02\0\x04\0\
@@ -87,7 +87,7 @@ fn wrong_token(bytes: &[u8]) -> Option<&'static str> {
     let mut rest = bytes;
     for (what, token) in &TOKEN_ROWS {
         match rest.strip_prefix(token.as_slice()) {
-            Some(behind) => rest = behind,
+            Some(after) => rest = after,
             None => return Some(*what),
         }
     }
@@ -127,9 +127,9 @@ fn end_of_sections(alloc: Global) -> Result<Vec<u8>, AllocError> {
 /// Checks the sample's image, whose sections end with `end`.
 fn expect_image(rt: &impl Abort, image: &[u8], end: &[u8]) {
     assert!(rt; image.starts_with(HEADER));
-    assert!(rt; image.get(40..72) == Some(BEGIN_LENGTHS.as_slice()));
+    assert!(rt; image.get(40..72) == Some(START_LENGTHS.as_slice()));
     assert!(rt; image.get(80..104) == Some(END_LENGTHS.as_slice()));
-    assert!(rt; image.get(104..306) == Some(BEGIN.as_slice()));
+    assert!(rt; image.get(104..306) == Some(START.as_slice()));
 
     let body = &image[..image.len().saturating_sub(DIGEST_LENGTH)];
     assert!(rt; body.ends_with(end));

@@ -7,7 +7,7 @@ use std::alloc::{AllocError, Global};
 use std::test::Fail;
 
 /// The first bytes of a user image: layout 3, kind 1.
-static BEGIN: &[u8; 16] = b"MJDICT\r\n\x03\0\0\0\x01\0\0\0";
+static START: &[u8; 16] = b"MJDICT\r\n\x03\0\0\0\x01\0\0\0";
 
 /// A user lexicon, and the contents of its image.
 #[derive(Clone, Copy)]
@@ -86,7 +86,7 @@ fn header_of(alloc: Global, row: &Row, cells: u64) -> Result<Vec<u8>, AllocError
         ..
     } = *row;
     let mut header = Vec::new(alloc);
-    header.extend_from_slice(BEGIN)?;
+    header.extend_from_slice(START)?;
     header.extend_from_slice(numbers)?;
     header.extend_from_slice(&[0; 32])?;
     header.extend_from_slice(&cells.to_le_bytes())?;

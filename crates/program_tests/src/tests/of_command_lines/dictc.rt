@@ -1,8 +1,8 @@
 //! Command lines of `dictc`.
 
 use crate::tests::texts::{subjects, texts};
-use Command::{AllFaults, System, Told, Trusting, User};
-use command_lines::dictc::{Base, Command as AskedFor, IdsOptions, Options, parse_command};
+use Command::{AllFaults, System, Trusting, User, Verbose};
+use command_lines::dictc::{Base, Command as ParsedCommand, IdsOptions, Options, parse_command};
 use std::alloc::{AllocError, Global};
 use std::string::String;
 use std::test::Fail;
@@ -14,7 +14,7 @@ enum Command {
     /// Compiles a system dictionary from the definitions `m`, `c` and `u` and these lexicons.
     System(&'static str),
     /// Compiles a system dictionary with log messages on.
-    Told(&'static str),
+    Verbose(&'static str),
     /// Compiles a system dictionary and reports all errors.
     AllFaults(&'static str),
     /// Compiles a user dictionary of these lexicons for this system image.
@@ -24,16 +24,17 @@ enum Command {
 }
 
 impl Command {
-    fn parse_command(&self, alloc: Global) -> Result<Options, AllocError> {
+    fn options(&self, alloc: Global) -> Result<Options, AllocError> {
         let (base, lexicons) = match self {
-            Command::System(lexicons) | Command::Told(lexicons) | Command::AllFaults(lexicons) => {
-                let definitions = Base::Definitions {
-                    matrix: String::from_str(alloc, "m")?,
-                    chars: String::from_str(alloc, "c")?,
-                    unk: String::from_str(alloc, "u")?,
-                };
-                (definitions, lexicons)
-            }
+            Command::System(lexicons) | Command::Verbose(lexicons) | Command::AllFaults(lexicons) =>
+                {
+                    let definitions = Base::Definitions {
+                        matrix: String::from_str(alloc, "m")?,
+                        chars: String::from_str(alloc, "c")?,
+                        unk: String::from_str(alloc, "u")?,
+                    };
+                    (definitions, lexicons)
+                }
             Command::User(dic, lexicons) | Command::Trusting(dic, lexicons) => {
                 let system = Base::System {
                     dic: String::from_str(alloc, dic)?,
@@ -47,13 +48,13 @@ impl Command {
             out: String::from_str(alloc, "o")?,
             lexicons: words(alloc, lexicons)?,
             all_faults: matches!(self, Command::AllFaults(_)),
-            verbose: matches!(self, Command::Told(_)),
+            verbose: matches!(self, Command::Verbose(_)),
         })
     }
 }
 
 /// Returns whether the command line `given` is parsed as `wanted`.
-fn is_verbose(alloc: Global, given: &str, wanted: &AskedFor) -> Result<bool, AllocError> {
+fn is_verbose(alloc: Global, given: &str, wanted: &ParsedCommand) -> Result<bool, AllocError> {
     Ok(
         match parse_command(alloc, words(alloc, given)?, &texts(&subjects())) {
             Ok(found) => found == *wanted,
@@ -69,7 +70,7 @@ static COMMAND_LINES: [(&str, &str, Command); 8] = [
     ("options with =", "system b --out=o --unk=u a --char=c --matrix=m", System("b a")),
     ("all faults", "system --matrix m --char c --unk u --out o --all-faults a.csv",
         AllFaults("a.csv")),
-    ("what is done", "system --matrix m --char c --unk u --out o -v a.csv", Told("a.csv")),
+    ("log messages on", "system --matrix m --char c --unk u --out o -v a.csv", Verbose("a.csv")),
     ("a user", "user --dic sys.img --out o a.csv", User("sys.img", "a.csv")),
     ("a user, without the digest", "user --skip-digest --dic s --out o a", Trusting("s", "a")),
     ("a lexicon twice", "user --dic s --out o a b a", User("s", "a b a")),
@@ -78,8 +79,8 @@ static COMMAND_LINES: [(&str, &str, Command); 8] = [
 
 #[test]
 fn command_lines(rt: HostRuntime) -> Result<(), Fail> {
-    for (what, given, asked) in &COMMAND_LINES {
-        let wanted = AskedFor::Image(asked.parse_command(rt.alloc())?);
+    for (what, given, expected) in &COMMAND_LINES {
+        let wanted = ParsedCommand::Image(expected.options(rt.alloc())?);
         assert!(rt; is_verbose(rt.alloc(), given, &wanted)?, "{what}");
     }
     Ok(())
@@ -96,7 +97,7 @@ static COMMAND_LINES_OF_IDS: [(&str, &str, &str, bool, bool); 3] = [
 #[test]
 fn command_lines_of_ids(rt: HostRuntime) -> Result<(), Fail> {
     for (what, given, users, skip_digest, verbose) in &COMMAND_LINES_OF_IDS {
-        let wanted = AskedFor::Ids(IdsOptions {
+        let wanted = ParsedCommand::Ids(IdsOptions {
             dic: String::from_str(rt.alloc(), "s")?,
             users: words(rt.alloc(), users)?,
             skip_digest: *skip_digest,

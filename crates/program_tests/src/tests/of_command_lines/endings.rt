@@ -48,8 +48,8 @@ fn is_ended(
     Ok(match &program.fault(alloc, given)? {
         Some(fault) => {
             let reported = fault.text();
-            let is_told = status != 2 || reported.starts_with(program.prefix());
-            fault.status() == status && is_told && reported.contains(text)
+            let is_prefixed = status != 2 || reported.starts_with(program.prefix());
+            fault.status() == status && is_prefixed && reported.contains(text)
         }
         None => false,
     })
@@ -118,7 +118,7 @@ static COMMAND_LINES_THAT_END_AT_ONCE: [(&[Program], &str, &str, (u8, &str)); 34
     (JSEG, "controls", "--x\u{1b}[2J", (2, "jseg: unexpected argument '--x\\u{1b}[2J' found\n")),
     (JSEG, "a line feed", "--a\nb", (2, "jseg: unexpected argument '--a\\nb' found\n")),
     (JSEG, "one in a value", "--sample -M 7\n", (2, "jseg: invalid value '7\\n' for '-M <N>': ")),
-    (JSEG, "one beside an image", "--smple -d s.img", (2, "'--sample'")),
+    (JSEG, "one next to an image", "--smple -d s.img", (2, "'--sample'")),
     (JSEG, "a short option", "-q", (2, "jseg: unexpected argument '-q' found\n\nUsage: jseg ")),
 ];
 
@@ -144,7 +144,7 @@ fn expect_wrong(rt: &(impl Abort + Alloc<A = Global>), rows: &[WrongRow<'_>]) ->
 #[rattlefmt::skip]
 static WRONG_COMMAND_LINES: [WrongRow<'static>; 65] = [
     // (program, what, arguments)
-    (Dictc, "nothing asked for", ""),
+    (Dictc, "nothing requested", ""),
     (Dictc, "another subcommand", "delete"),
     (Dictc, "options alone", "--out o a"),
     (Dictc, "a system without its options", "system a"),
@@ -170,7 +170,7 @@ static WRONG_COMMAND_LINES: [WrongRow<'static>; 65] = [
     (Jseg, "the digest of a directory", "--sources a --skip-digest"),
     (Jseg, "the digest of the sample", "--skip-digest --sample"),
     (Jseg, "a user without a name", "-d a -u"),
-    (Jseg, "nothing asked for", ""),
+    (Jseg, "nothing requested", ""),
     (Jseg, "twice", "--sample --sample"),
     (Jseg, "two directories", "--sources a --sources b"),
     (Jseg, "directory and sample", "--sources a --sample"),

@@ -2,7 +2,7 @@
 
 use super::is_text;
 use crate::tests::texts::{subjects, texts};
-use Asked::{Directory, Images, Sample, Trusted};
+use Expected::{Directory, Images, Sample, Trusted};
 use command_lines::OptionsFault;
 use command_lines::jseg::{
     Command, Form, Input, LatticeChoice, Options, ViewChoice, parse_command,
@@ -14,7 +14,7 @@ use test_support::text::words;
 
 /// The expected input: images, a directory or the sample. User images are one text, separated by
 /// blanks.
-enum Asked {
+enum Expected {
     Images(&'static str, &'static str),
     /// Images whose checksums are not checked.
     Trusted(&'static str, &'static str),
@@ -22,16 +22,16 @@ enum Asked {
     Sample,
 }
 
-impl Asked {
+impl Expected {
     fn input(&self, alloc: Global) -> Result<Input, AllocError> {
         Ok(match self {
-            Asked::Images(dic, users) | Asked::Trusted(dic, users) => Input::Images {
+            Expected::Images(dic, users) | Expected::Trusted(dic, users) => Input::Images {
                 dic: String::from_str(alloc, dic)?,
                 users: words(alloc, users)?,
-                skip_digest: matches!(self, Asked::Trusted(_, _)),
+                skip_digest: matches!(self, Expected::Trusted(_, _)),
             },
-            Asked::Directory(dir) => Input::Sources(String::from_str(alloc, dir)?),
-            Asked::Sample => Input::Sample,
+            Expected::Directory(dir) => Input::Sources(String::from_str(alloc, dir)?),
+            Expected::Sample => Input::Sample,
         })
     }
 }
@@ -53,7 +53,7 @@ fn are_input_and_grouping(alloc: Global, words: Vec<String>, input: &Input, grou
 }
 
 #[rattlefmt::skip]
-static COMMAND_LINES: [(&str, &str, Asked, u16); 13] = [
+static COMMAND_LINES: [(&str, &str, Expected, u16); 13] = [
     // (what, arguments, the expected input, grouping)
     ("the sample",                "--sample",            Sample,                     24),
     ("a directory",               "--sources a/b",       Directory("a/b"),           24),
@@ -72,8 +72,8 @@ static COMMAND_LINES: [(&str, &str, Asked, u16); 13] = [
 
 #[test]
 fn command_lines(rt: HostRuntime) -> Result<(), Fail> {
-    for (what, given, asked, grouping) in &COMMAND_LINES {
-        let input = asked.input(rt.alloc())?;
+    for (what, given, expected, grouping) in &COMMAND_LINES {
+        let input = expected.input(rt.alloc())?;
         let words = words(rt.alloc(), given)?;
         let are_chosen = are_input_and_grouping(rt.alloc(), words, &input, *grouping);
         assert!(rt; are_chosen, "{what}");

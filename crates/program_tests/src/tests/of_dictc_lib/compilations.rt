@@ -1,6 +1,6 @@
 //! Compilations, and failed ones that leave existing images unchanged.
 
-use super::{compiled_as, is_told, words_in};
+use super::{compiled_as, is_printed, words_in};
 use crate::tests::texts::{subjects, texts};
 use crate::tests::{expect_in_directory, in_directory, write_in};
 use command_lines::dictc::{Command, parse_command};
@@ -56,7 +56,7 @@ fn make_sources(rt: &HostRuntime, dir: &str) -> Result<(), Fail> {
 }
 
 /// Parses the command line `given`, whose files are in `dir`.
-fn asked_in(rt: &HostRuntime, dir: &str, given: &str) -> Result<Command, Fail> {
+fn command_in(rt: &HostRuntime, dir: &str, given: &str) -> Result<Command, Fail> {
     Ok(parse_command(rt.alloc(), words_in(rt, dir, given)?, &texts(&subjects()))?)
 }
 
@@ -66,9 +66,9 @@ fn compile_in(
     dir: &str,
     given: &str,
 ) -> Result<Result<Compiled, CompileError>, Fail> {
-    match &asked_in(rt, dir, given)? {
-        Command::Image(parse_command) => Ok(compiled_as(rt, parse_command)),
-        _ => Err(Fail::new("it asks for no image")),
+    match &command_in(rt, dir, given)? {
+        Command::Image(options) => Ok(compiled_as(rt, options)),
+        _ => Err(Fail::new("it compiles no image")),
     }
 }
 
@@ -99,9 +99,9 @@ fn is_compiled(
     let Ok(compiled) = compile_in(rt, dir, given)? else {
         return Ok(false);
     };
-    let is_told = is_told(rt.alloc(), &compiled, line);
+    let is_printed = is_printed(rt.alloc(), &compiled, line);
     let is_same = bytes_in(rt, dir, name)? == compiled.image;
-    Ok(is_told && is_same && is_of_kind(rt.alloc(), compiled.image, *user))
+    Ok(is_printed && is_same && is_of_kind(rt.alloc(), compiled.image, *user))
 }
 
 #[rattlefmt::skip]
@@ -163,31 +163,31 @@ fn are_kept(rt: &HostRuntime, dir: &str) -> Result<bool, Fail> {
 }
 
 /// The arguments, the file that the error names, and its number if it is a source.
-type RefusedRow = (&'static str, &'static str, Option<u32>);
+type RejectedRow = (&'static str, &'static str, Option<u32>);
 
 /// Returns whether the command line fails with this error and leaves the images unchanged.
-fn is_refused(
+fn is_rejected(
     rt: &HostRuntime,
     dir: &str,
-    (given, wanted, number): &RefusedRow,
+    (given, wanted, number): &RejectedRow,
 ) -> Result<bool, Fail> {
     let path = in_directory(rt, dir, wanted)?;
-    let is_told = match &compile_in(rt, dir, given)? {
+    let is_reported = match &compile_in(rt, dir, given)? {
         Ok(_) => false,
         Err(fault) => is_fault_of(fault, path.as_str(), *number),
     };
-    Ok(is_told && are_kept(rt, dir)?)
+    Ok(is_reported && are_kept(rt, dir)?)
 }
 
 #[rattlefmt::skip]
-static REFUSED: [(&str, RefusedRow); 3] = [
+static REJECTED: [(&str, RejectedRow); 3] = [
     // (what, (arguments, the file that the error names, its number if it is a source))
-    ("a bad second lexicon",              (BAD_SECOND, "bad.csv",  Some(4))),
-    ("a bad lexicon of a user",           (BAD_USER,   "bad.csv",  Some(3))),
-    ("for a user's, which is told first", (FOR_USER,   "user.img", None)),
+    ("a bad second lexicon",                  (BAD_SECOND, "bad.csv",  Some(4))),
+    ("a bad lexicon of a user",               (BAD_USER,   "bad.csv",  Some(3))),
+    ("for a user's, which is reported first", (FOR_USER,   "user.img", None)),
 ];
 
 #[test]
 fn invalid_dictionaries(rt: HostRuntime) -> Result<(), Fail> {
-    expect_in_directory(&rt, "refused", make_images, &REFUSED, is_refused)
+    expect_in_directory(&rt, "rejected", make_images, &REJECTED, is_rejected)
 }

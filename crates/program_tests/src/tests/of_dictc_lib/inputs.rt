@@ -11,7 +11,7 @@ use std::test::Fail;
 const LINE: &str = "dictc: --out would overwrite an input file: /";
 
 /// Returns whether the command line is accepted, or is rejected because an input would be lost.
-fn is_answered(
+fn has_expected_result(
     rt: &HostRuntime,
     dir: &str,
     (given, lost): &(&'static str, bool),
@@ -56,5 +56,11 @@ fn make_inputs(rt: &HostRuntime, dir: &str) -> Result<(), Fail> {
 
 #[test]
 fn kept_inputs(rt: HostRuntime) -> Result<(), Fail> {
-    expect_in_directory(&rt, "inputs", make_inputs, &KEPT_INPUTS, is_answered)
+    expect_in_directory(
+        &rt,
+        "inputs",
+        make_inputs,
+        &KEPT_INPUTS,
+        has_expected_result,
+    )
 }

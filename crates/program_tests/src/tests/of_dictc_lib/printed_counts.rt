@@ -1,6 +1,6 @@
 //! What is printed about compilations.
 
-use super::is_told;
+use super::is_printed;
 use dict_compile::{CompileUserFault, Compiled};
 use dictc_lib::print_counts;
 use mj_model::{SourceFault, SourceKind};
@@ -45,7 +45,7 @@ fn compiled(alloc: Global, entries: u64, skipped: u128) -> Compiled {
 }
 
 #[rattlefmt::skip]
-static TOLD_COMPILATIONS: [(u64, u128, &str); 3] = [
+static PRINTED_COMPILATIONS: [(u64, u128, &str); 3] = [
     // (entries, skipped, line)
     (0,       0,         "0 entries, 0 skipped\n"),
     (3,       1,         "3 entries, 1 skipped\n"),
@@ -53,15 +53,15 @@ static TOLD_COMPILATIONS: [(u64, u128, &str); 3] = [
 ];
 
 #[test]
-fn told_compilations(rt: HostRuntime) {
-    for (entries, skipped, line) in &TOLD_COMPILATIONS {
+fn printed_compilations(rt: HostRuntime) {
+    for (entries, skipped, line) in &PRINTED_COMPILATIONS {
         let counts = compiled(rt.alloc(), *entries, *skipped);
-        assert!(rt; is_told(rt.alloc(), &counts, line), "{line}");
+        assert!(rt; is_printed(rt.alloc(), &counts, line), "{line}");
     }
 }
 
 #[rattlefmt::skip]
-static COMPILATIONS_THAT_CANNOT_BE_TOLD: [(&str, usize, bool, bool); 4] = [
+static COMPILATIONS_THAT_CANNOT_BE_PRINTED: [(&str, usize, bool, bool); 4] = [
     // (what, room in bytes, whether a flush succeeds, whether printing succeeds)
     ("room for all",  21, true,  true),
     ("no room",       0,  true,  false),
@@ -70,21 +70,21 @@ static COMPILATIONS_THAT_CANNOT_BE_TOLD: [(&str, usize, bool, bool); 4] = [
 ];
 
 #[test]
-fn compilations_that_cannot_be_told(rt: HostRuntime) -> Result<(), Fail> {
-    for (what, room, flushes, is_told) in &COMPILATIONS_THAT_CANNOT_BE_TOLD {
+fn compilations_that_cannot_be_printed(rt: HostRuntime) -> Result<(), Fail> {
+    for (what, room, flushes, prints) in &COMPILATIONS_THAT_CANNOT_BE_PRINTED {
         let mut writer = Full {
             room: *room,
             flushes: *flushes,
         };
         let reported = print_counts(&compiled(rt.alloc(), 3, 1), &mut writer);
-        let fault = if *is_told { None } else { Some(Fault::Output) };
+        let fault = if *prints { None } else { Some(Fault::Output) };
         assert!(rt; reported.err() == fault, "{what}");
     }
     Ok(())
 }
 
 #[rattlefmt::skip]
-static TOLD_FAULTS_OF_USERS: [FaultRow<CompileUserFault>; 2] = [
+static PRINTED_FAULTS_OF_USERS: [FaultRow<CompileUserFault>; 2] = [
     // (error, code, name, text)
     (CompileUserFault::NotSystem, "O1", "NotSystem", "O1 NotSystem"),
     (CompileUserFault::Source(SourceFault { file: 3, line: 7, kind: SourceKind::BadNumber }),
@@ -92,6 +92,6 @@ static TOLD_FAULTS_OF_USERS: [FaultRow<CompileUserFault>; 2] = [
 ];
 
 #[test]
-fn told_faults_of_users(rt: HostRuntime) -> Result<(), Fail> {
-    expect_printed(rt.alloc(), &TOLD_FAULTS_OF_USERS)
+fn printed_faults_of_users(rt: HostRuntime) -> Result<(), Fail> {
+    expect_printed(rt.alloc(), &PRINTED_FAULTS_OF_USERS)
 }

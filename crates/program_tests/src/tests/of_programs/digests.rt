@@ -55,14 +55,14 @@ static READ_DIGESTS: [DigestRow; 10] = [
     // (what, changed byte, most bytes of a read, requested test, test left, error)
     ("a right digest",                    0,  99_999, Verified, Skipped,  None),
     ("a right digest, singly",            0,  1,      Verified, Skipped,  None),
-    ("behind the header",                 0,  104,    Verified, Skipped,  None),
-    ("a right digest, not asked for",     0,  99_999, Skipped,  Skipped,  None),
+    ("after the header",                  0,  104,    Verified, Skipped,  None),
+    ("a right digest, not requested",     0,  99_999, Skipped,  Skipped,  None),
     ("another digest",                    1,  99_999, Verified, Verified, Some(ImageFault::Digest)),
     ("another digest, singly",            1,  1,      Verified, Verified, Some(ImageFault::Digest)),
-    ("another digest, not asked for",     1,  99_999, Skipped,  Skipped,  None),
+    ("another digest, not requested",     1,  99_999, Skipped,  Skipped,  None),
     ("another feature",                   33, 99_999, Verified, Verified, Some(ImageFault::Digest)),
     ("another feature, singly",           33, 1,      Verified, Verified, Some(ImageFault::Digest)),
-    ("another feature, not asked for",    33, 99_999, Skipped,  Skipped,  None),
+    ("another feature, not requested",    33, 99_999, Skipped,  Skipped,  None),
 ];
 
 /// Reads an image from `bytes`, at most `most` of them in each read.
@@ -77,10 +77,10 @@ fn read_at_once(alloc: Global, bytes: &[u8], most: usize, digest: DigestTest) ->
 fn is_as_wanted(
     alloc: Global,
     image: &[u8],
-    (_what, from_end, most, asked, left, fault): &DigestRow,
+    (_what, from_end, most, requested, left, fault): &DigestRow,
 ) -> Result<bool, AllocError> {
     let bytes = changed(alloc, image, *from_end)?;
-    Ok(match read_at_once(alloc, &bytes, *most, *asked) {
+    Ok(match read_at_once(alloc, &bytes, *most, *requested) {
         Some(read) => {
             let is_read = read.bytes == bytes && read.digest == *left;
             is_read && read.load(alloc).err() == *fault

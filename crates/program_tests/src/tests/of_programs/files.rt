@@ -21,7 +21,7 @@ fn is_file_fault(fault: Option<&Fault>, path: &str) -> bool {
 }
 
 /// Returns whether the file at `path` can be neither read nor written.
-fn is_refused(rt: &HostRuntime, path: &str) -> bool {
+fn is_rejected(rt: &HostRuntime, path: &str) -> bool {
     let read = WholeFile::read(rt, path).err();
     let written = write(rt, path, b"text").err();
     is_file_fault(read.as_ref(), path) && is_file_fault(written.as_ref(), path)
@@ -29,9 +29,9 @@ fn is_refused(rt: &HostRuntime, path: &str) -> bool {
 
 /// Returns whether the file at `dir` followed by `name` can be neither read nor written, and `dir`
 /// is left empty.
-fn is_refused_in(rt: &HostRuntime, dir: &str, name: &&'static str) -> Result<bool, Fail> {
+fn is_rejected_in(rt: &HostRuntime, dir: &str, name: &&'static str) -> Result<bool, Fail> {
     let path = format!(in rt.alloc(); "{dir}{name}")?;
-    Ok(is_refused(rt, path.as_str()) && names_in(rt, dir)? == 0)
+    Ok(is_rejected(rt, path.as_str()) && names_in(rt, dir)? == 0)
 }
 
 #[rattlefmt::skip]
@@ -44,8 +44,8 @@ static NAMES_THAT_FAIL: [(&str, &str); 3] = [
 
 #[test]
 fn files_that_fail(rt: HostRuntime) -> Result<(), Fail> {
-    assert!(rt; is_refused(&rt, ""), "no name");
-    expect_in_directory(&rt, "failing", no_files, &NAMES_THAT_FAIL, is_refused_in)
+    assert!(rt; is_rejected(&rt, ""), "no name");
+    expect_in_directory(&rt, "failing", no_files, &NAMES_THAT_FAIL, is_rejected_in)
 }
 
 #[test]

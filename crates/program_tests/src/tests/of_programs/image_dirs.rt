@@ -23,12 +23,12 @@ fn image_dirs(
     data_home: Option<&str>,
     home: Option<&str>,
 ) -> Result<Vec<String>, AllocError> {
-    let surroundings = Environment {
+    let environment = Environment {
         prefix: own(alloc, prefix)?,
         data_home: own(alloc, data_home)?,
         home: own(alloc, home)?,
     };
-    surroundings.image_dirs(alloc)
+    environment.image_dirs(alloc)
 }
 
 /// A label, `PREFIX`, `XDG_DATA_HOME` and `HOME`, and the image directories.
@@ -146,7 +146,7 @@ fn is_order(alloc: Global, names: &str, ordered: &str) -> Result<bool, AllocErro
 
 #[test]
 fn names_in_a_folder(rt: HostRuntime) -> Result<(), Fail> {
-    expect_in_directory(&rt, "homes", make_images, &LISTED, has_images)?;
+    expect_in_directory(&rt, "image_dirs", make_images, &LISTED, has_images)?;
     assert!(rt; is_order(rt.alloc(), "é b a B a", "B a a b é")?);
     Ok(())
 }
@@ -154,7 +154,7 @@ fn names_in_a_folder(rt: HostRuntime) -> Result<(), Fail> {
 const TWENTY: &str = "a, b, c, d, e, f, g, h, i, j, k, l, m, n, o, p, q, r, s, t";
 
 #[rattlefmt::skip]
-static NAMES_THAT_ARE_TOLD: [(&str, &str); 5] = [
+static PRINTED_NAMES: [(&str, &str); 5] = [
     // (names, the line)
     ("", "none; install one with kumquatsieve-import"),
     ("ipadic", "ipadic"),
@@ -164,18 +164,18 @@ static NAMES_THAT_ARE_TOLD: [(&str, &str); 5] = [
 ];
 
 /// Returns whether `line` is the list printed for `names`, after its heading.
-fn is_told(alloc: Global, names: &str, line: &str) -> Result<bool, AllocError> {
+fn is_printed(alloc: Global, names: &str, line: &str) -> Result<bool, AllocError> {
     let reported = name_list(alloc, &words(alloc, names)?)?;
     Ok(reported.as_str().strip_prefix("available images: ") == Some(line))
 }
 
 #[test]
-fn names_that_are_told(rt: HostRuntime) -> Result<(), Fail> {
-    for (names, line) in &NAMES_THAT_ARE_TOLD {
-        assert!(rt; is_told(rt.alloc(), names, line)?, "{names}");
+fn printed_names(rt: HostRuntime) -> Result<(), Fail> {
+    for (names, line) in &PRINTED_NAMES {
+        assert!(rt; is_printed(rt.alloc(), names, line)?, "{names}");
     }
     let further = "a b c d e f g h i j k l m n o p q r s t u v w";
     let line = joined(rt.alloc(), &[TWENTY, " and 3 more"])?;
-    assert!(rt; is_told(rt.alloc(), further, line.as_str())?);
+    assert!(rt; is_printed(rt.alloc(), further, line.as_str())?);
     Ok(())
 }

@@ -1,7 +1,7 @@
 //! Images whose header is checked before the remainder is read.
 
-use Answer::{Endless, Refused, Whole};
 use First::{Image, Other};
+use Outcome::{Endless, Rejected, Whole};
 use dict_image::DigestTest;
 use mj_model::ImageFault::{self, BadLayout, BadMagic, BadSection, Truncated};
 use programs::{ImageReadFault, ImageReading, ReadFault, read_image};
@@ -55,78 +55,78 @@ fn image(alloc: Global, layout: u8, section: u64, following: usize) -> Result<Ve
 
 /// The result of reading an image.
 #[derive(Clone, Copy, PartialEq)]
-enum Answer {
+enum Outcome {
     Whole,
-    Refused(ImageFault),
+    Rejected(ImageFault),
     Endless,
 }
 
 /// Reads an image from `reader`, and returns `Whole` if it has the bytes `bytes`, or the error.
 ///
 /// The checksum is checked, and no progress is printed.
-fn answered<R: Read>(
+fn outcome_of<R: Read>(
     alloc: Global,
     reader: &mut R,
     known: Option<u64>,
     reads: u64,
     bytes: &[u8],
-) -> Option<Answer> {
+) -> Option<Outcome> {
     let reading = ImageReading {
         digest: DigestTest::Verified,
         reported: None,
     };
     match read_image(alloc, reader, known, reads, reading) {
-        Ok(image) => (image.bytes.as_slice() == bytes).then_some(Answer::Whole),
-        Err(ImageReadFault::Image(fault)) => Some(Answer::Refused(fault)),
-        Err(ImageReadFault::Read(ReadFault::Endless)) => Some(Answer::Endless),
+        Ok(image) => (image.bytes.as_slice() == bytes).then_some(Outcome::Whole),
+        Err(ImageReadFault::Image(fault)) => Some(Outcome::Rejected(fault)),
+        Err(ImageReadFault::Read(ReadFault::Endless)) => Some(Outcome::Endless),
         Err(ImageReadFault::Read(_)) => None,
     }
 }
 
 /// A label, the layout, the bytes of section 1 and those after the header, the known length, the
 /// most reads, and the result.
-type HeadRow = (&'static str, u8, u64, usize, Option<u64>, u64, Answer);
+type HeadRow = (&'static str, u8, u64, usize, Option<u64>, u64, Outcome);
 
-fn expect_judged(
+fn expect_checked(
     rt: &(impl Abort + Alloc<A = Global>),
     (what, layout, section, following, known, reads, wanted): &HeadRow,
 ) -> Result<(), AllocError> {
     let bytes = image(rt.alloc(), *layout, *section, *following)?;
     let mut reader = bytes.as_slice();
-    let answer = answered(rt.alloc(), &mut reader, *known, *reads, &bytes);
-    assert!(rt; answer == Some(*wanted), "{what}");
+    let outcome = outcome_of(rt.alloc(), &mut reader, *known, *reads, &bytes);
+    assert!(rt; outcome == Some(*wanted), "{what}");
     Ok(())
 }
 
 const MUCH: u64 = 1 << 40;
 
 #[rattlefmt::skip]
-static JUDGED_HEADS: [HeadRow; 18] = [
+static CHECKED_HEADS: [HeadRow; 18] = [
     // (what, layout, bytes of section 1, bytes after the header, known length, most reads, result)
-    ("as many as told",          1, 10, 10, Some(114), 3, Whole),
+    ("as many as stated",        1, 10, 10, Some(114), 3, Whole),
     ("the same of a pipe",       1, 10, 10, None,      3, Whole),
     ("with a digest",            3, 10, 42, Some(146), 3, Whole),
     ("a header alone",           2,  0,  0, Some(104), 3, Whole),
-    ("fewer",                    1, 10,  9, Some(113), 3, Refused(Truncated)),
+    ("fewer",                    1, 10,  9, Some(113), 3, Rejected(Truncated)),
     ("fewer, of a pipe",         1, 10,  9, None,      3, Whole),
-    ("no digest",                3, 10, 10, Some(114), 3, Refused(Truncated)),
-    ("more",                     1, 10, 11, Some(115), 3, Refused(BadSection(9))),
-    ("more, of a pipe",          1, 10, 11, None,      3, Refused(BadSection(9))),
-    ("many more, of a pipe",     1, 10, 99, None,      3, Refused(BadSection(9))),
-    ("much is told",             1, MUCH, 0, Some(104), 3, Refused(Truncated)),
-    ("much is told, of a pipe",  1, MUCH, 0, None,     3, Whole),
-    ("more is told than counts", 3, u64::MAX, 0, None, 3, Refused(Truncated)),
-    ("the file tells nothing",   1, 10, 10, Some(0),   3, Whole),
-    ("layout 0",                 0, 10, 10, Some(114), 3, Refused(BadLayout(0))),
-    ("layout 4 before lengths",  4, 10,  9, Some(113), 3, Refused(BadLayout(4))),
+    ("no digest",                3, 10, 10, Some(114), 3, Rejected(Truncated)),
+    ("more",                     1, 10, 11, Some(115), 3, Rejected(BadSection(9))),
+    ("more, of a pipe",          1, 10, 11, None,      3, Rejected(BadSection(9))),
+    ("many more, of a pipe",     1, 10, 99, None,      3, Rejected(BadSection(9))),
+    ("a huge length",            1, MUCH, 0, Some(104), 3, Rejected(Truncated)),
+    ("a huge length, of a pipe", 1, MUCH, 0, None,     3, Whole),
+    ("more than can be counted", 3, u64::MAX, 0, None, 3, Rejected(Truncated)),
+    ("a reported length of 0",   1, 10, 10, Some(0),   3, Whole),
+    ("layout 0",                 0, 10, 10, Some(114), 3, Rejected(BadLayout(0))),
+    ("layout 4 before lengths",  4, 10,  9, Some(113), 3, Rejected(BadLayout(4))),
     ("too few reads for it",     1, 10, 10, Some(114), 1, Endless),
     ("none",                     1, 10, 10, Some(114), 0, Endless),
 ];
 
 #[test]
-fn judged_heads(rt: HostRuntime) -> Result<(), Fail> {
-    for row in &JUDGED_HEADS {
-        expect_judged(&rt, row)?;
+fn checked_heads(rt: HostRuntime) -> Result<(), Fail> {
+    for row in &CHECKED_HEADS {
+        expect_checked(&rt, row)?;
     }
     Ok(())
 }
@@ -138,7 +138,7 @@ enum First {
 }
 
 /// A label, the bytes, how many a read returns, whether they end, the result, and the most reads.
-type DrippingRow = (&'static str, First, usize, bool, Answer, usize);
+type DrippingRow = (&'static str, First, usize, bool, Outcome, usize);
 
 /// Checks that a header is checked as soon as it is complete, in reads of any size.
 fn expect_dripping(
@@ -157,25 +157,25 @@ fn expect_dripping(
         ends: *ends,
         reads: 0,
     };
-    let answer = answered(rt.alloc(), &mut reader, None, 1 << 40, bytes);
-    assert!(rt; answer == Some(*wanted), "{what}");
+    let outcome = outcome_of(rt.alloc(), &mut reader, None, 1 << 40, bytes);
+    assert!(rt; outcome == Some(*wanted), "{what}");
     assert!(rt; reader.reads <= *most, "{what}: {} reads", reader.reads);
 }
 
 #[rattlefmt::skip]
 static DRIPPING_HEADS: [DrippingRow; 11] = [
     // (what, bytes, bytes of a read, whether they end, result, most reads)
-    ("single bytes",         Image(usize::MAX), 1,      true,  Whole,                  70_105),
-    ("a header at once",     Image(usize::MAX), 104,    true,  Whole,                  676),
-    ("all at once",          Image(usize::MAX), 99_999, true,  Whole,                  3),
-    ("zeros behind it",      Image(usize::MAX), 99_999, false, Refused(BadSection(9)), 3),
-    ("zeros behind, singly", Image(usize::MAX), 1,      false, Refused(BadSection(9)), 70_105),
-    ("zeros behind a part",  Image(200),        99_999, false, Refused(BadSection(9)), 4),
-    ("another file",         Other(usize::MAX), 99_999, true,  Refused(BadMagic),      1),
-    ("another one, singly",  Other(usize::MAX), 1,      true,  Refused(BadMagic),      104),
-    ("fewer than a header",  Other(103),        99_999, true,  Whole,                  2),
-    ("nothing",              Other(0),          99_999, true,  Whole,                  1),
-    ("zeros for ever",       Other(0),          99_999, false, Refused(BadMagic),      1),
+    ("single bytes",           Image(usize::MAX), 1,      true,  Whole,                   70_105),
+    ("a header at once",       Image(usize::MAX), 104,    true,  Whole,                   676),
+    ("all at once",            Image(usize::MAX), 99_999, true,  Whole,                   3),
+    ("zeros after it",         Image(usize::MAX), 99_999, false, Rejected(BadSection(9)), 3),
+    ("zeros after it, singly", Image(usize::MAX), 1,      false, Rejected(BadSection(9)), 70_105),
+    ("zeros after a part",     Image(200),        99_999, false, Rejected(BadSection(9)), 4),
+    ("another file",           Other(usize::MAX), 99_999, true,  Rejected(BadMagic),      1),
+    ("another one, singly",    Other(usize::MAX), 1,      true,  Rejected(BadMagic),      104),
+    ("fewer than a header",    Other(103),        99_999, true,  Whole,                   2),
+    ("nothing",                Other(0),          99_999, true,  Whole,                   1),
+    ("zeros for ever",         Other(0),          99_999, false, Rejected(BadMagic),      1),
 ];
 
 #[test]

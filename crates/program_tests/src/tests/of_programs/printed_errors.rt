@@ -23,7 +23,7 @@ fn has_words<F: NamedFault + Drop>(alloc: Global, text: &str, fault: F) -> Resul
 }
 
 /// Returns whether both programs print `line` after their names, and return `status`.
-fn is_told(alloc: Global, fault: &Fault, line: &str, status: u8) -> Result<bool, Fail> {
+fn is_reported(alloc: Global, fault: &Fault, line: &str, status: u8) -> Result<bool, Fail> {
     for program in ["dictc", "jseg"] {
         let mut reported = Vec::new(alloc);
         let text = joined(alloc, &[program, ": ", line, "\n"])?;
@@ -42,7 +42,7 @@ fn of_a_line(alloc: Global, kind: SourceKind) -> Fault {
 }
 
 /// An error, with the paths that the test cases use.
-enum Told {
+enum PrintedFault {
     /// In line 7 of a lexicon.
     Source(SourceKind),
     /// In the sources as a whole. It may be reported with a path.
@@ -58,75 +58,75 @@ enum Told {
     Memory,
 }
 
-impl Told {
+impl PrintedFault {
     fn fault(&self, alloc: Global) -> Result<Fault, AllocError> {
         Ok(match self {
-            Told::Source(kind) => of_a_line(alloc, *kind),
-            Told::Sources(kind) => Fault::of_source(alloc, None, kind.at(NO_FILE, 0)),
-            Told::Misplaced(kind) => {
+            PrintedFault::Source(kind) => of_a_line(alloc, *kind),
+            PrintedFault::Sources(kind) => Fault::of_source(alloc, None, kind.at(NO_FILE, 0)),
+            PrintedFault::Misplaced(kind) => {
                 Fault::Source(String::from_str(alloc, "a/b.csv")?, kind.at(NO_FILE, 0))
             }
-            Told::Image(fault) => Fault::Image(String::from_str(alloc, "s.img")?, *fault),
-            Told::Overlay(fault) => Fault::of_overlay(alloc, "u.img", *fault),
-            Told::Format(at, kind) => {
+            PrintedFault::Image(fault) => Fault::Image(String::from_str(alloc, "s.img")?, *fault),
+            PrintedFault::Overlay(fault) => Fault::of_overlay(alloc, "u.img", *fault),
+            PrintedFault::Format(at, kind) => {
                 let (part, at, kind) = (FormatPart::Node, *at, *kind);
                 Fault::Format(FormatFault::Bad { part, at, kind })
             }
-            Told::FormatMemory => Fault::Format(FormatFault::Memory),
-            Told::Run(fault) => Fault::Run(*fault),
-            Told::File => Fault::File(String::from_str(alloc, "a/x.csv")?),
-            Told::Output => Fault::Output,
-            Told::Memory => Fault::Memory,
+            PrintedFault::FormatMemory => Fault::Format(FormatFault::Memory),
+            PrintedFault::Run(fault) => Fault::Run(*fault),
+            PrintedFault::File => Fault::File(String::from_str(alloc, "a/x.csv")?),
+            PrintedFault::Output => Fault::Output,
+            PrintedFault::Memory => Fault::Memory,
         })
     }
 }
 
 /// Errors, as they are printed.
 #[rattlefmt::skip]
-static TOLD_FAULTS: [(Told, &str, u8); 32] = [
+static PRINTED_FAULTS: [(PrintedFault, &str, u8); 32] = [
     // (error, line after the program's name, status)
-    (Told::Source(SourceKind::ArrayFull),           "I2 ArrayFull",                    1),
-    (Told::Sources(SourceKind::ArrayFull),          "I2 ArrayFull",                    1),
-    (Told::Misplaced(SourceKind::ArrayFull),        "I2 ArrayFull",                    1),
-    (Told::Sources(SourceKind::FeaturesTooLarge),   "I3 FeaturesTooLarge",             1),
-    (Told::Misplaced(SourceKind::FeaturesTooLarge), "I3 FeaturesTooLarge",             1),
-    (Told::Source(SourceKind::Memory),              "Memory",                          4),
-    (Told::Misplaced(SourceKind::Memory),           "Memory",                          4),
-    (Told::Image(ImageFault::Truncated),            "s.img: L1 Truncated",             1),
-    (Told::Image(ImageFault::BadMagic),             "s.img: L2 BadMagic",              1),
-    (Told::Image(ImageFault::BadLayout(9)),         "s.img: L3 BadLayout 9",           1),
-    (Told::Image(ImageFault::BadSection(5)),        "s.img: L4 BadSection 5",          1),
-    (Told::Image(ImageFault::BadKey(70_000)),       "s.img: L5 BadKey 70000",          1),
-    (Told::Image(ImageFault::BadToken(12)),         "s.img: L6 BadToken 12",           1),
-    (Told::Image(ImageFault::BadText(u32::MAX)),    "s.img: L7 BadText 4294967295",    1),
-    (Told::Image(ImageFault::Digest),               "s.img: L8 Digest",                1),
-    (Told::Image(ImageFault::Memory),               "Memory",                          4),
-    (Told::Overlay(NotSystem),                      "u.img: O1 NotSystem",             1),
-    (Told::Overlay(NotUser(0)),                     "u.img: O2 NotUser 0",             1),
-    (Told::Overlay(OtherSizes(12)),                 "u.img: O3 OtherSizes 12",         1),
-    (Told::Format(1, FormatKind::BadEscape),        "P1 BadEscape 1",                  2),
-    (Told::Format(16, FormatKind::BadItem),         "P2 BadItem 16",                   2),
-    (Told::Format(0, FormatKind::BadIndex),         "P3 BadIndex 0",                   2),
-    (Told::FormatMemory,                            "Memory",                          4),
-    (Told::Run(RunFault::Read(2)),                  "line 2: G1 Read",                 3),
-    (Told::Run(RunFault::Write(1 << 64)),           "G2 Write 18446744073709551616",   3),
-    (Told::Run(RunFault::NotUtf8(3)),               "line 3: G3 NotUtf8",              1),
-    (Told::Run(RunFault::TooLong(1)),               "line 1: G4 TooLong",              1),
-    (Told::Run(RunFault::InputTooLong(9)),          "line 9: G5 InputTooLong",         1),
-    (Told::Run(RunFault::Memory(5)),                "Memory",                          4),
-    (Told::File,                                    "a/x.csv: F1 File",                3),
-    (Told::Output,                                  "F2 Output",                       3),
-    (Told::Memory,                                  "Memory",                          4),
+    (PrintedFault::Source(SourceKind::ArrayFull),           "I2 ArrayFull",                    1),
+    (PrintedFault::Sources(SourceKind::ArrayFull),          "I2 ArrayFull",                    1),
+    (PrintedFault::Misplaced(SourceKind::ArrayFull),        "I2 ArrayFull",                    1),
+    (PrintedFault::Sources(SourceKind::FeaturesTooLarge),   "I3 FeaturesTooLarge",             1),
+    (PrintedFault::Misplaced(SourceKind::FeaturesTooLarge), "I3 FeaturesTooLarge",             1),
+    (PrintedFault::Source(SourceKind::Memory),              "Memory",                          4),
+    (PrintedFault::Misplaced(SourceKind::Memory),           "Memory",                          4),
+    (PrintedFault::Image(ImageFault::Truncated),            "s.img: L1 Truncated",             1),
+    (PrintedFault::Image(ImageFault::BadMagic),             "s.img: L2 BadMagic",              1),
+    (PrintedFault::Image(ImageFault::BadLayout(9)),         "s.img: L3 BadLayout 9",           1),
+    (PrintedFault::Image(ImageFault::BadSection(5)),        "s.img: L4 BadSection 5",          1),
+    (PrintedFault::Image(ImageFault::BadKey(70_000)),       "s.img: L5 BadKey 70000",          1),
+    (PrintedFault::Image(ImageFault::BadToken(12)),         "s.img: L6 BadToken 12",           1),
+    (PrintedFault::Image(ImageFault::BadText(u32::MAX)),    "s.img: L7 BadText 4294967295",    1),
+    (PrintedFault::Image(ImageFault::Digest),               "s.img: L8 Digest",                1),
+    (PrintedFault::Image(ImageFault::Memory),               "Memory",                          4),
+    (PrintedFault::Overlay(NotSystem),                      "u.img: O1 NotSystem",             1),
+    (PrintedFault::Overlay(NotUser(0)),                     "u.img: O2 NotUser 0",             1),
+    (PrintedFault::Overlay(OtherSizes(12)),                 "u.img: O3 OtherSizes 12",         1),
+    (PrintedFault::Format(1, FormatKind::BadEscape),        "P1 BadEscape 1",                  2),
+    (PrintedFault::Format(16, FormatKind::BadItem),         "P2 BadItem 16",                   2),
+    (PrintedFault::Format(0, FormatKind::BadIndex),         "P3 BadIndex 0",                   2),
+    (PrintedFault::FormatMemory,                            "Memory",                          4),
+    (PrintedFault::Run(RunFault::Read(2)),                  "line 2: G1 Read",                 3),
+    (PrintedFault::Run(RunFault::Write(1 << 64)),           "G2 Write 18446744073709551616",   3),
+    (PrintedFault::Run(RunFault::NotUtf8(3)),               "line 3: G3 NotUtf8",              1),
+    (PrintedFault::Run(RunFault::TooLong(1)),               "line 1: G4 TooLong",              1),
+    (PrintedFault::Run(RunFault::InputTooLong(9)),          "line 9: G5 InputTooLong",         1),
+    (PrintedFault::Run(RunFault::Memory(5)),                "Memory",                          4),
+    (PrintedFault::File,                                    "a/x.csv: F1 File",                3),
+    (PrintedFault::Output,                                  "F2 Output",                       3),
+    (PrintedFault::Memory,                                  "Memory",                          4),
 ];
 
 /// Returns whether `line` is printed with this status, and contains the error's code and name.
 fn is_line(alloc: Global, fault: &Fault, line: &str, status: u8) -> Result<bool, Fail> {
-    Ok(is_told(alloc, fault, line, status)? && has_words(alloc, line, fault)?)
+    Ok(is_reported(alloc, fault, line, status)? && has_words(alloc, line, fault)?)
 }
 
 #[test]
-fn told_faults(rt: HostRuntime) -> Result<(), Fail> {
-    for (reported, line, status) in &TOLD_FAULTS {
+fn printed_faults(rt: HostRuntime) -> Result<(), Fail> {
+    for (reported, line, status) in &PRINTED_FAULTS {
         let fault = reported.fault(rt.alloc())?;
         assert!(rt; is_line(rt.alloc(), &fault, line, *status)?, "{line}");
     }
@@ -135,7 +135,7 @@ fn told_faults(rt: HostRuntime) -> Result<(), Fail> {
 
 /// Errors of a line of a source, as they are printed after the path and the line number.
 #[rattlefmt::skip]
-static TOLD_LINES: [(SourceKind, &str); 19] = [
+static PRINTED_LINES: [(SourceKind, &str); 19] = [
     // (kind, code and name)
     (SourceKind::NotUtf8,            "S1 NotUtf8"),
     (SourceKind::TooFewFields,       "S2 TooFewFields"),
@@ -159,16 +159,19 @@ static TOLD_LINES: [(SourceKind, &str); 19] = [
 ];
 
 /// Returns whether the error is printed after its path and line number.
-fn is_told_of_a_line(alloc: Global, kind: SourceKind, words: &str) -> Result<bool, Fail> {
+fn is_reported_after_place(alloc: Global, kind: SourceKind, words: &str) -> Result<bool, Fail> {
     let fault = of_a_line(alloc, kind);
     let line = joined(alloc, &["a/b.csv:7: ", words])?;
     is_line(alloc, &fault, line.as_str(), 1)
 }
 
 #[test]
-fn told_lines(rt: HostRuntime) -> Result<(), Fail> {
-    for (kind, words) in &TOLD_LINES {
-        assert!(rt; is_told_of_a_line(rt.alloc(), *kind, words)?, "{words}");
+fn printed_lines(rt: HostRuntime) -> Result<(), Fail> {
+    for (kind, words) in &PRINTED_LINES {
+        assert!(rt;
+            is_reported_after_place(rt.alloc(), *kind, words)?,
+            "{words}"
+        );
     }
     Ok(())
 }
@@ -210,7 +213,7 @@ fn carried_sources(rt: HostRuntime) -> Result<(), Fail> {
 }
 
 /// Returns whether `fault` is printed as `path`, then `text`.
-fn is_behind(alloc: Global, fault: &Fault, path: &str, text: &str) -> Result<bool, Fail> {
+fn is_printed_after(alloc: Global, fault: &Fault, path: &str, text: &str) -> Result<bool, Fail> {
     let printed = printed(alloc, fault)?;
     Ok(printed.as_str().strip_prefix(path) == Some(text))
 }
@@ -226,26 +229,26 @@ fn image_or_file(alloc: Global, path: &str, is_image: bool) -> Result<Fault, All
 }
 
 /// Returns whether each error that has a path prints `path` as `reported`.
-fn is_path_told(alloc: Global, path: &str, reported: &str) -> Result<bool, Fail> {
+fn is_path_printed(alloc: Global, path: &str, reported: &str) -> Result<bool, Fail> {
     let bad = SourceKind::BadNumber.at(3, 7);
     let source = ":7: S3 BadNumber";
     Ok(
-        is_behind(
+        is_printed_after(
             alloc,
             &Fault::of_source(alloc, Some(path), bad),
             reported,
             source,
-        )? && is_behind(
+        )? && is_printed_after(
             alloc,
             &Fault::of_overlay(alloc, path, NotSystem),
             reported,
             ": O1 NotSystem",
-        )? && is_behind(
+        )? && is_printed_after(
             alloc,
             &image_or_file(alloc, path, true)?,
             reported,
             ": L1 Truncated",
-        )? && is_behind(
+        )? && is_printed_after(
             alloc,
             &image_or_file(alloc, path, false)?,
             reported,
@@ -268,7 +271,7 @@ static ESCAPED_PATHS: [(&str, &str); 5] = [
 #[test]
 fn escaped_paths(rt: HostRuntime) -> Result<(), Fail> {
     for (path, reported) in &ESCAPED_PATHS {
-        assert!(rt; is_path_told(rt.alloc(), path, reported)?, "{reported}");
+        assert!(rt; is_path_printed(rt.alloc(), path, reported)?, "{reported}");
     }
     Ok(())
 }

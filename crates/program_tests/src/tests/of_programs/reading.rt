@@ -68,12 +68,12 @@ fn failing_readers(rt: HostRuntime) -> Result<(), Fail> {
     for reads in [0, 1, 5] {
         let fault = read_whole(rt.alloc(), &mut Failing { reads }, 9).err();
         let Some(ReadFault::Device(error)) = &fault else {
-            assert!(rt; false, "behind {reads} reads");
+            assert!(rt; false, "after {reads} reads");
             return Ok(());
         };
         assert!(rt;
             error.kind() == ErrorKind::Interrupted,
-            "behind {reads} reads"
+            "after {reads} reads"
         );
     }
     Ok(())

@@ -130,7 +130,7 @@ fn take_names(rt: &HostRuntime, dir: &str) -> Result<(), Fail> {
 }
 
 /// Returns whether the file is written although those names are taken, and they are unchanged.
-fn is_written_beside(rt: &HostRuntime, dir: &str, bytes: &&'static [u8]) -> Result<bool, Fail> {
+fn is_written_next_to(rt: &HostRuntime, dir: &str, bytes: &&'static [u8]) -> Result<bool, Fail> {
     let path = file_in(rt, dir)?;
     let written = write_file_as(rt, 7, path.as_str(), bytes).is_ok();
     Ok(written && has_bytes(rt, path.as_str(), bytes)? && are_kept(rt, dir)?)
@@ -142,11 +142,17 @@ fn are_kept(rt: &HostRuntime, dir: &str) -> io::Result<bool> {
     Ok(has_bytes(rt, first.as_str(), b"of another run")? && names_in(rt, dir)? == 3)
 }
 
-static BESIDE: [(&str, &[u8]); 1] = [("beside names that are taken", b"new")];
+static NEXT_TO_TAKEN_NAMES: [(&str, &[u8]); 1] = [("next to names that are taken", b"new")];
 
 #[test]
 fn names_that_are_taken(rt: HostRuntime) -> Result<(), Fail> {
-    expect_in_directory(&rt, "taken", take_names, &BESIDE, is_written_beside)
+    expect_in_directory(
+        &rt,
+        "taken",
+        take_names,
+        &NEXT_TO_TAKEN_NAMES,
+        is_written_next_to,
+    )
 }
 
 /// Returns whether a file with a name of `length` bytes is written twice.
@@ -222,9 +228,9 @@ fn links_are_kept(rt: HostRuntime) -> Result<(), Fail> {
 
 #[test]
 fn full_devices(rt: HostRuntime) {
-    let is_told = match &write(&rt, "/dev/full", b"text") {
+    let is_reported = match &write(&rt, "/dev/full", b"text") {
         Err(Fault::File(path)) => path.as_str() == "/dev/full",
         _ => false,
     };
-    assert!(rt; is_told);
+    assert!(rt; is_reported);
 }

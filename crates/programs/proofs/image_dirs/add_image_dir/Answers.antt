@@ -7,13 +7,13 @@ use Rattle.programs.proofs.image_dirs.add_image_dir.Goals as goal
 pub returns-then-contains : goal.returns-then-contains
 returns-then-contains c =
     let is : c.deref.result.now ≡ c.args.image_dirs.now.items = search rules in
-    let asked = ap (λ ss. list_any (λ s. string_eq s c.args.home) ss) (sym is) ∙ sym c.contains.ensures.value in
-    with_image_dir-there c.args.home c.args.image_dirs.now.items (asked ∙ c.if-contains.true)
+    let contained = ap (λ ss. list_any (λ s. string_eq s c.args.dir) ss) (sym is) ∙ sym c.contains.ensures.value in
+    with_image_dir-there c.args.dir c.args.image_dirs.now.items (contained ∙ c.if-contains.true)
 
 pub returns : goal.returns
 returns c =
     let is : c.deref.result.now ≡ c.args.image_dirs.now.items = search rules in
-    let asked = ap (λ ss. list_any (λ s. string_eq s c.args.home) ss) (sym is) ∙ sym c.contains.ensures.value in
-    let pushed : c.push.new.self.items ≡ c.args.image_dirs.now.items ++ c.args.home ∷ [] = search rules in
-    ap (λ items. map (λ home. string_bytes home) items) pushed
-    ∙ with_image_dir-new c.args.home c.args.image_dirs.now.items (asked ∙ c.if-contains.false)
+    let contained = ap (λ ss. list_any (λ s. string_eq s c.args.dir) ss) (sym is) ∙ sym c.contains.ensures.value in
+    let pushed : c.push.new.self.items ≡ c.args.image_dirs.now.items ++ c.args.dir ∷ [] = search rules in
+    ap (λ items. map (λ dir. string_bytes dir) items) pushed
+    ∙ with_image_dir-new c.args.dir c.args.image_dirs.now.items (contained ∙ c.if-contains.false)

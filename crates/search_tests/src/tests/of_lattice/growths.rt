@@ -19,7 +19,7 @@ const WORDS: usize = 1_976;
 const TOTAL: i64 = 1_989_840;
 
 /// Finds the best path with a new lattice, `calls` times.
-fn ask_lattice(
+fn search_lattice(
     rt: &(impl Abort + Alloc<A = Global>),
     dict: &Dict,
     text: &str,
@@ -35,26 +35,30 @@ fn ask_lattice(
 }
 
 /// Finds the best path with each of `lattices` new lattices, `calls` times.
-fn ask(rt: &(impl Abort + Alloc<A = Global>), lattices: usize, calls: usize) -> Result<(), Fail> {
+fn search_lattices(
+    rt: &(impl Abort + Alloc<A = Global>),
+    lattices: usize,
+    calls: usize,
+) -> Result<(), Fail> {
     let text = letters(rt.alloc(), LETTERS)?;
     let dict = system_dict(rt.alloc(), &sample())?;
     for _lattice in 0..lattices {
-        ask_lattice(rt, &dict, text.as_str(), calls)?;
+        search_lattice(rt, &dict, text.as_str(), calls)?;
     }
     Ok(())
 }
 
 #[test]
 fn one_call(rt: HostRuntime) -> Result<(), Fail> {
-    ask(&rt, 1, 1)
+    search_lattices(&rt, 1, 1)
 }
 
 #[test]
 fn two_calls(rt: HostRuntime) -> Result<(), Fail> {
-    ask(&rt, 1, 2)
+    search_lattices(&rt, 1, 2)
 }
 
 #[test]
 fn two_lattices(rt: HostRuntime) -> Result<(), Fail> {
-    ask(&rt, 2, 1)
+    search_lattices(&rt, 2, 1)
 }

@@ -1,6 +1,6 @@
 //! Allocation failures of searches.
 //!
-//! Allocations fail under `tests/out_of_memory/run.py`, which expects the line `rejected` on
+//! Allocations fail under `tests/out_of_memory/run.py`, which expects the line `refused` on
 //! standard error.
 
 use super::sample_paths::{path_in, path_over};
@@ -51,7 +51,7 @@ fn expect_paths(
 type Row<'a> = (TestDictionary, (&'a str, i64, &'a [(usize, usize)]));
 
 #[rattlefmt::skip]
-static STARVED_SEARCHES: [Row<'static>; 3] = [
+static SEARCHES_OUT_OF_MEMORY: [Row<'static>; 3] = [
     // (dictionary, (text, total cost, starts and ends of the surfaces))
     (Sample,  ("すもももも", 152, &[(0, 9), (9, 15)])),
     (Sample,  (SPACED,       152, &[(1, 10), (12, 18)])),
@@ -63,9 +63,9 @@ fn expect_row(
     rt: &(impl Abort + Alloc<A = Global> + Eprint),
     dicts: &TwoDicts,
     lattice: &mut Lattice,
-    (asked, wanted): &Row<'_>,
+    (requested, wanted): &Row<'_>,
 ) -> Result<(), Fail> {
-    let dictionaries = overlay(dicts.of(*asked), &[])?;
+    let dictionaries = overlay(dicts.of(*requested), &[])?;
     expect_paths(rt, lattice, &dictionaries, *wanted)
 }
 
@@ -73,7 +73,7 @@ fn expect_row(
 fn search_out_of_memory(rt: HostRuntime) -> Result<(), Fail> {
     let dicts = TwoDicts::again(&rt)?;
     let mut lattice = Lattice::new(rt.alloc());
-    for row in &STARVED_SEARCHES {
+    for row in &SEARCHES_OUT_OF_MEMORY {
         expect_row(&rt, &dicts, &mut lattice, row)?;
     }
     Ok(())

@@ -8,7 +8,7 @@ use test_support::samples::overlay;
 
 /// Returns the position after the blanks at `place`, over the sample's dictionary with `line`
 /// appended to `char.def`.
-fn blanks_behind(
+fn end_of_blanks(
     alloc: Global,
     line: &str,
     text: &str,
@@ -38,7 +38,7 @@ static BLANKS: [(&str, &str, &str, usize, usize); 7] = [
 #[test]
 fn blanks(rt: HostRuntime) -> Result<(), Fail> {
     for (what, line, text, place, following) in &BLANKS {
-        let found = blanks_behind(rt.alloc(), line, text, *place)?;
+        let found = end_of_blanks(rt.alloc(), line, text, *place)?;
         assert_eq!(rt; found, Some(*following), "{what}");
     }
     Ok(())

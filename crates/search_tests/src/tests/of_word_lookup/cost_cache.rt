@@ -43,7 +43,7 @@ fn ids_of_texts(rt: HostRuntime) -> Result<(), Fail> {
 }
 
 /// Returns how many words of `text` are collected if the lexicon has a word `count` times.
-fn noted_of(alloc: Global, count: usize, text: &str) -> Result<usize, Fail> {
+fn collected_count(alloc: Global, count: usize, text: &str) -> Result<usize, Fail> {
     let mut lexicon = Vec::new(alloc);
     for _line in 0..count {
         lexicon.extend_from_slice("も,1,1,20,X\n".as_bytes())?;
@@ -54,7 +54,7 @@ fn noted_of(alloc: Global, count: usize, text: &str) -> Result<usize, Fail> {
 }
 
 #[rattlefmt::skip]
-static NOTED_WORDS: [(&str, usize, &str, usize); 5] = [
+static COLLECTED_WORDS: [(&str, usize, &str, usize); 5] = [
     // (what, how often the lexicon has a word, text, how many words are collected)
     ("no text",                    3,    "",       0),
     ("all at each place",          3,    "ももも", 9),
@@ -64,9 +64,13 @@ static NOTED_WORDS: [(&str, usize, &str, usize); 5] = [
 ];
 
 #[test]
-fn noted_words(rt: HostRuntime) -> Result<(), Fail> {
-    for (what, count, text, noted) in &NOTED_WORDS {
-        assert_eq!(rt; noted_of(rt.alloc(), *count, text)?, *noted, "{what}");
+fn collected_words(rt: HostRuntime) -> Result<(), Fail> {
+    for (what, count, text, expected) in &COLLECTED_WORDS {
+        assert_eq!(rt;
+            collected_count(rt.alloc(), *count, text)?,
+            *expected,
+            "{what}"
+        );
     }
     Ok(())
 }
@@ -100,7 +104,7 @@ fn few_costs_are_not_far(rt: HostRuntime) -> Result<(), Fail> {
 }
 
 #[rattlefmt::skip]
-static NOTED: [(&str, u32, &[u16], &[u16]); 4] = [
+static COLLECTED_IDS: [(&str, u32, &[u16], &[u16]); 4] = [
     // (what, the number of ids, the ids that are added, the ids in the order of their numbers)
     ("none",          3, &[],              &[]),
     ("each once",     3, &[2, 0, 2, 0],    &[2, 0]),
@@ -109,10 +113,10 @@ static NOTED: [(&str, u32, &[u16], &[u16]); 4] = [
 ];
 
 #[test]
-fn noted_ids(rt: HostRuntime) -> Result<(), Fail> {
-    for (what, size, noted, expected) in &NOTED {
+fn collected_ids(rt: HostRuntime) -> Result<(), Fail> {
+    for (what, size, added, expected) in &COLLECTED_IDS {
         let mut ids = NumberedIds::new(rt.alloc(), *size)?;
-        for id in *noted {
+        for id in *added {
             ids.add(*id)?;
         }
         assert_eq!(rt; ids.ids(), *expected, "{what}");

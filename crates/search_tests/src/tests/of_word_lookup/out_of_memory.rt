@@ -1,6 +1,6 @@
 //! Allocation failures of word lookups.
 //!
-//! Allocations fail under `tests/out_of_memory/run.py`, which expects the line `rejected` on
+//! Allocations fail under `tests/out_of_memory/run.py`, which expects the line `refused` on
 //! standard error.
 
 use super::expected_words::Expected::{self, Known, Unknown};
@@ -65,7 +65,7 @@ fn expect_words(
 type Row<'a> = (TestDictionary, (&'a str, usize), &'a [Expected]);
 
 #[rattlefmt::skip]
-static STARVED_WORDS: [Row<'static>; 6] = [
+static WORDS_OUT_OF_MEMORY: [Row<'static>; 6] = [
     // (dictionary, text and position, words)
     (Sample,  ("すもももも", 0), &[Known(0, 9, 100, "名詞,すもも")]),
     (Sample,  ("すもももも", 9), &[Known(9, 12, 20, "助詞,も"), Known(9, 15, 30, "名詞,もも")]),
@@ -79,10 +79,10 @@ static STARVED_WORDS: [Row<'static>; 6] = [
 fn expect_row(
     rt: &(impl Abort + Alloc<A = Global> + Eprint),
     dicts: &TwoDicts,
-    (asked, at, expected): &Row<'_>,
+    (requested, at, expected): &Row<'_>,
     out: &mut Vec<Word>,
 ) -> Result<(), Fail> {
-    let dictionaries = overlay(dicts.of(*asked), &[])?;
+    let dictionaries = overlay(dicts.of(*requested), &[])?;
     expect_words(rt, &dictionaries, *at, expected, out)
 }
 
@@ -90,7 +90,7 @@ fn expect_row(
 fn words_out_of_memory(rt: HostRuntime) -> Result<(), Fail> {
     let dicts = TwoDicts::again(&rt)?;
     let mut out = Vec::new(rt.alloc());
-    for row in &STARVED_WORDS {
+    for row in &WORDS_OUT_OF_MEMORY {
         expect_row(&rt, &dicts, row, &mut out)?;
     }
     Ok(())

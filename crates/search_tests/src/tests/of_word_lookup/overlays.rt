@@ -80,7 +80,7 @@ fn dicts(alloc: Global) -> Result<Vec<Dict>, Fail> {
 type Row<'a> = (&'a str, usize, (usize, usize), OverlayFault);
 
 #[rattlefmt::skip]
-static REFUSED_OVERLAYS: [Row<'static>; 6] = [
+static REJECTED_OVERLAYS: [Row<'static>; 6] = [
     // (what, system, users, error)
     ("user as system",                  0, (0, 0), OverlayFault::NotSystem),
     ("user as system before its users", 0, (2, 4), OverlayFault::NotSystem),
@@ -102,7 +102,7 @@ fn rejected(dicts: &[Dict], system: usize, (from, to): (usize, usize)) -> Option
 #[test]
 fn invalid_overlays(rt: HostRuntime) -> Result<(), Fail> {
     let dicts = dicts(rt.alloc())?;
-    for (what, system, users, fault) in &REFUSED_OVERLAYS {
+    for (what, system, users, fault) in &REJECTED_OVERLAYS {
         let rejected = rejected(&dicts, *system, *users);
         assert_eq!(rt; rejected, Some(*fault), "{what}");
     }
@@ -138,7 +138,7 @@ static FEATURES: [(&str, Origin, &str); 7] = [
     ("an entry of the lexicon is no unknown one", Origin::Unknown { token: 2 }, ""),
     ("the first unknown entry", Origin::Unknown { token: 3 }, "未知"),
     ("the last unknown entry", Origin::Unknown { token: 8 }, "未知"),
-    ("behind the last entry", Origin::Unknown { token: 9 }, ""),
+    ("after the last entry", Origin::Unknown { token: 9 }, ""),
 ];
 
 #[test]

@@ -77,13 +77,13 @@ static IN_TURN: [Row<'static>; 14] = [
         &[(0, &[1]), (4, &[6]), (5, &[6])]),
     ("places that skip a run's end", "", 2, "zzzzアイ", &[(0, &[1]), (4, &[10, 7]), (7, &[10])]),
     ("places that fall", "", 2, "zzzzアイ", &[(4, &[10, 7]), (0, &[1]), (7, &[10]), (2, &[4])]),
-    ("LENGTH behind a run that is too long", "", 0, "アイウ", &[(0, &[3, 6]), (3, &[6]), (6, &[9])]),
+    ("LENGTH after a run that is too long", "", 0, "アイウ", &[(0, &[3, 6]), (3, &[6]), (6, &[9])]),
     // ア and ー share a category, and so do ー and す, but ア and す don't.
     ("kinds that share in pairs", MARK, 24, "アーす", &[(0, &[9, 3, 6]), (3, &[9, 6]), (6, &[9])]),
     ("the same from the second on", MARK, 24, "アーす", &[(3, &[9, 6]), (6, &[9])]),
     ("the same without the second", MARK, 24, "アーす", &[(0, &[9, 3, 6]), (6, &[9])]),
     // The blanks at a tab include letters after it. A letter alone has no blanks.
-    ("a run behind blanks, and runs in them", TAB, 24, "\tz\tzアイ",
+    ("a run after blanks, and runs in them", TAB, 24, "\tz\tzアイ",
         &[(0, &[10, 7]), (1, &[4]), (2, &[10, 7]), (3, &[4]), (4, &[10, 7])]),
     ("beyond the basic plane", "0x20000..0x2A6DF ALPHA\n", 1, "𠮷𠮷𠮷",
         &[(0, &[4]), (4, &[12]), (8, &[12])]),

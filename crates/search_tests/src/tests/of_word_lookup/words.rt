@@ -28,7 +28,7 @@ const KANJI: &str = "0x20000..0x2A6DF KANJI\n";
 #[rattlefmt::skip]
 static WORDS_OF_THE_SAMPLE: [Row<'static>; 9] = [
     ("sumomo", ("", None), "すもももも", 0, &[Known(0, 9, 100, "名詞,すもも")]),
-    ("behind す", ("", None), "すもももも", 3, &[Known(3, 6, 20, "助詞,も"), Known(3, 9, 30, "名詞,もも")]),
+    ("after す", ("", None), "すもももも", 3, &[Known(3, 6, 20, "助詞,も"), Known(3, 9, 30, "名詞,もも")]),
     ("katakana_group_and_length", ("", None), "アイ", 0, &[Unknown(0, 6), Unknown(0, 3)]),
     ("prolonged mark", (MARK, None), "アーす", 0, &[Unknown(0, 9), Unknown(0, 3), Unknown(0, 6)]),
     ("tokyo_tie", ("", None), "東京都", 0, &[Unknown(0, 3), Unknown(0, 6)]),
@@ -50,20 +50,20 @@ const WIDE: &str = "\u{3000}すもも\u{3000}";
 const MAPPED: &str = "0x3000 SPACE\n";
 
 #[rattlefmt::skip]
-static WORDS_BESIDE_BLANKS: [Row<'static>; 8] = [
+static WORDS_NEXT_TO_BLANKS: [Row<'static>; 8] = [
     ("a blank before the first word", ("", None), SPACED, 0, &[Known(1, 10, 100, "名詞,すもも")]),
     ("between", ("", None), SPACED, 10, &[Known(12, 15, 20, "助詞,も"), Known(12, 18, 30, "名詞,もも")]),
-    ("a blank behind the last word", ("", None), SPACED, 18, &[]),
+    ("a blank after the last word", ("", None), SPACED, 18, &[]),
     ("only_blanks", ("", None), "   ", 0, &[]),
     ("a wide blank", (MAPPED, None), WIDE, 0, &[Known(3, 12, 100, "名詞,すもも")]),
-    ("a wide blank behind", (MAPPED, None), WIDE, 12, &[]),
+    ("a wide blank after", (MAPPED, None), WIDE, 12, &[]),
     ("a wide blank that is not mapped", ("", None), WIDE, 0, &[Unknown(0, 3)]),
     ("blanks over a letter", ("0x0009 SPACE ALPHA\n", None), "\tzも", 0, &[Known(2, 5, 20, "助詞,も")]),
 ];
 
 #[test]
-fn words_beside_blanks(rt: HostRuntime) -> Result<(), Fail> {
-    expect_words(&rt, &WORDS_BESIDE_BLANKS)
+fn words_next_to_blanks(rt: HostRuntime) -> Result<(), Fail> {
+    expect_words(&rt, &WORDS_NEXT_TO_BLANKS)
 }
 
 const TIE: Option<&str> = Some("a,1,1,10,X\nb,1,1,10,X\nab,1,1,27,X\n");

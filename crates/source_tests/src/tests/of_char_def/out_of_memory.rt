@@ -1,6 +1,6 @@
 //! Allocation failures.
 //!
-//! Allocations fail under `tests/out_of_memory/run.py`, which expects the line `rejected` on
+//! Allocations fail under `tests/out_of_memory/run.py`, which expects the line `refused` on
 //! standard error.
 
 use super::samples::{chars_of, commented, info_of, info_with, unk_of};

@@ -1,9 +1,9 @@
 //! Allocation failures.
 //!
-//! Allocations fail under `tests/out_of_memory/run.py`, which expects the line `rejected` on
+//! Allocations fail under `tests/out_of_memory/run.py`, which expects the line `refused` on
 //! standard error.
 use super::is_text;
-use super::records::{ACCEPTED, expect_records, fault_behind};
+use super::records::{ACCEPTED, expect_records, fault_after};
 use super::sorted::add;
 use crate::tests::faults::{File, expect_faults};
 use lex_source::{SortedLexicon, SourceLexicon, append_field, field};
@@ -36,7 +36,7 @@ fn line_of(rt: &HostRuntime, length: usize) -> Result<Vec<u8>, Fail> {
 #[test]
 fn long_surface_out_of_memory(rt: HostRuntime) -> Result<(), Fail> {
     let line = line_of(&rt, 65_536)?;
-    assert_eq!(rt; fault_behind(&rt, 3, &line)?, Some(SurfaceTooLong.at(3, 1)));
+    assert_eq!(rt; fault_after(&rt, 3, &line)?, Some(SurfaceTooLong.at(3, 1)));
     Ok(())
 }
 

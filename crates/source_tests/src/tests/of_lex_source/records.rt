@@ -38,7 +38,7 @@ fn is_record(record: &Record<'_>, expected: &Expected) -> bool {
 }
 
 /// Returns whether `records` are `BEFORE` and then `expected`.
-fn stand_behind(records: &[Record<'_>], expected: &[Expected]) -> bool {
+fn are_appended(records: &[Record<'_>], expected: &[Expected]) -> bool {
     let Some((first, others)) = records.split_first() else {
         return false;
     };
@@ -74,7 +74,7 @@ fn one_record(
 
 /// Reads a lexicon after `BEFORE`, with one retry. An allocation failure must leave `BEFORE` alone
 /// in the list.
-fn read_behind<'a>(
+fn read_after<'a>(
     rt: &(impl Abort + Alloc<A = Global> + Eprint),
     number: u32,
     lexicon: &'a [u8],
@@ -83,7 +83,7 @@ fn read_behind<'a>(
     let found = read(rt.alloc(), number, lexicon, out);
     if matches!(found, Err(SourceFault { kind: Memory, .. })) {
         rt.eprintln("refused")?;
-        assert!(rt; stand_behind(out, &[]));
+        assert!(rt; are_appended(out, &[]));
         return Ok(read(rt.alloc(), number, lexicon, out));
     }
     Ok(found)
@@ -91,14 +91,14 @@ fn read_behind<'a>(
 
 /// Returns the error of reading a lexicon after `BEFORE`. The error must leave `BEFORE` alone in
 /// the list.
-pub fn fault_behind(
+pub fn fault_after(
     rt: &(impl Abort + Alloc<A = Global> + Eprint),
     number: u32,
     lexicon: &[u8],
 ) -> Result<Option<SourceFault>, Fail> {
     let mut out = one_record(rt)?;
-    let read = read_behind(rt, number, lexicon, &mut out)?;
-    assert!(rt; stand_behind(&out, &[]), "{lexicon:?}");
+    let read = read_after(rt, number, lexicon, &mut out)?;
+    assert!(rt; are_appended(&out, &[]), "{lexicon:?}");
     Ok(read.err())
 }
 
@@ -110,8 +110,8 @@ fn adds(
     expected: &[Expected],
 ) -> Result<bool, Fail> {
     let mut out = one_record(rt)?;
-    let read = read_behind(rt, 3, lexicon.as_bytes(), &mut out)?;
-    Ok(read == Ok(skipped) && stand_behind(&out, expected))
+    let read = read_after(rt, 3, lexicon.as_bytes(), &mut out)?;
+    Ok(read == Ok(skipped) && are_appended(&out, expected))
 }
 
 /// Checks the records of each lexicon.

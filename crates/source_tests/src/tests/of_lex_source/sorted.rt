@@ -15,7 +15,7 @@ static SORTED: [(&str, [&str; 2], &str); 7] = [
     ("no lines",                      ["",                          ""],              ""),
     ("bytes, not letters",            ["b,0,0,1,x\nB,0,0,1,y\n",    "あ,0,0,1,z\n"], "yxz"),
     ("one surface",                   ["a,1,2,9,x\na,0,0,1,y\n",    "a,0,0,5,z\n"],  "xyz"),
-    ("a surface that begins another", ["ab,0,0,1,x\nabc,0,0,1,y\n", "a,0,0,1,z\n"],  "zxy"),
+    ("a surface that starts another", ["ab,0,0,1,x\nabc,0,0,1,y\n", "a,0,0,1,z\n"],  "zxy"),
     ("7, 8 and 9 bytes", ["abcdefghi,0,0,1,x\nabcdefgh,0,0,1,y\n",  "abcdefg,0,0,1,z\n"],  "zyx"),
     ("equal up to byte 8", ["abcdefghz,0,0,1,x\nabcdefgha,0,0,1,y\n", "abcdefgz,0,0,1,z\n"], "yxz"),
     ("U+0000 at the end", ["a\0,0,0,1,x\na\0\0,0,0,1,y\n",       "a,0,0,1,z\n"],  "zxy"),
@@ -69,11 +69,11 @@ fn sorted_lexicons(rt: HostRuntime) -> Result<(), Fail> {
 
 /// Lexicons that are rejected when they are added to another one.
 #[rattlefmt::skip]
-static REFUSED: [(&str, &str, u64, SourceKind); 4] = [
+static REJECTED: [(&str, &str, u64, SourceKind); 4] = [
     // (what, a lexicon, the line, the kind of the error)
     ("a left id outside",     "b,0,0,1,y\nc,2,0,1,z\n", 2, IdOutside),
     ("a right id outside",    "b,0,3,1,y\n",            1, IdOutside),
-    ("a bad line behind one", "b,0,0,1,y\nc,0,0,1\n",   2, TooFewFields),
+    ("a bad line after one",  "b,0,0,1,y\nc,0,0,1\n",   2, TooFewFields),
     ("a line before its ids", "b,9,9,1,y\nc,0,0,x,z\n", 2, BadNumber),
 ];
 
@@ -81,7 +81,7 @@ static REFUSED: [(&str, &str, u64, SourceKind); 4] = [
 fn invalid_lexicons_add_nothing(rt: HostRuntime) -> Result<(), Fail> {
     let mut lexicon = SourceLexicon::new(rt.alloc(), SIZES);
     add(rt.alloc(), &mut lexicon, 3, b"a,0,0,1,x\n")?;
-    for (what, bytes, line, kind) in &REFUSED {
+    for (what, bytes, line, kind) in &REJECTED {
         let fault = add(rt.alloc(), &mut lexicon, 4, bytes.as_bytes()).err();
         assert!(rt; fault == Some(kind.at(4, *line)), "{what}");
         assert!(rt; lexicon.len() == 1, "{what}");

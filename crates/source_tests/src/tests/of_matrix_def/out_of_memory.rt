@@ -1,6 +1,6 @@
 //! Invalid matrices, and allocation failures.
 //!
-//! Allocations fail under `tests/out_of_memory/run.py`, which expects the line `rejected` on
+//! Allocations fail under `tests/out_of_memory/run.py`, which expects the line `refused` on
 //! standard error.
 use super::{matrix_of, matrix_of_halves};
 use crate::tests::faults::Read;
@@ -38,14 +38,14 @@ static MATRICES: [Row; 31] = [
     ("three sizes, blanks",              b"1 1 1  ", 1, BadHeader),
     ("a high size in zeros",             b"1 000100000000000000", 1, BadHeader),
     ("two costs, one of zeros",          b"1 1\n0 0 1 0000  ", 2, BadRow),
-    ("a high cost behind zeros",         b"1 1\n0 0 00012345678901234567890", 2, BadRow),
-    ("a high id behind zeros",           b"1 1\n0 00065536 1  ", 2, BadRow),
+    ("a high cost after zeros",          b"1 1\n0 0 00012345678901234567890", 2, BadRow),
+    ("a high id after zeros",            b"1 1\n0 00065536 1  ", 2, BadRow),
     ("a sign and blanks",                b"1 1\n0 0 -  5", 2, BadRow),
-    ("a sign behind a zero",             b"1 1\n0 0 0-5", 2, BadRow),
+    ("a sign after a zero",              b"1 1\n0 0 0-5", 2, BadRow),
     ("two carriage returns",             b"1 1\n0 0 5\r\r", 2, BadRow),
     ("one and a blank",                  b"1 1\n0 0 5\r ", 2, BadRow),
     ("one and a letter",                 b"1 1\n0 0 5\rx", 2, BadRow),
-    ("an id behind zeros",               b"1 1\n0  0000001   5   ", 2, PairOutside),
+    ("an id after zeros",                b"1 1\n0  0000001   5   ", 2, PairOutside),
 ];
 
 /// Returns the test cases. A call keeps the table out of the caller's proof.

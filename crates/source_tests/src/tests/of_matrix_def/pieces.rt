@@ -22,10 +22,10 @@ fn of_bytes(alloc: Global, bytes: &[u8]) -> Result<Matrix, SourceFault> {
 }
 
 /// The costs of a matrix, or its error.
-type Said<'a> = Result<&'a [i16], SourceFault>;
+type Expected<'a> = Result<&'a [i16], SourceFault>;
 
 /// Returns whether `read` has the costs or the error `expected`.
-fn says(read: Result<Matrix, SourceFault>, expected: Said<'_>) -> bool {
+fn is_expected(read: Result<Matrix, SourceFault>, expected: Expected<'_>) -> bool {
     match (read, expected) {
         (Ok(matrix), Ok(costs)) => matrix.costs() == costs,
         (Err(fault), Err(expected)) => fault == expected,
@@ -35,39 +35,39 @@ fn says(read: Result<Matrix, SourceFault>, expected: Said<'_>) -> bool {
 
 /// Checks the result of reading `bytes` in two pieces split at each position, byte by byte, and as
 /// one slice.
-fn expect_said(
+fn expect_read(
     rt: &(impl Abort + Alloc<A = Global>),
     what: &str,
     bytes: &[u8],
-    expected: Said<'_>,
+    expected: Expected<'_>,
 ) {
     for at in 0..bytes.len() + 1 {
         let read = of_two(rt.alloc(), &bytes[..at], &bytes[at..]);
-        assert!(rt; says(read, expected), "{what}, cut at {at}");
+        assert!(rt; is_expected(read, expected), "{what}, cut at {at}");
     }
     let read = of_bytes(rt.alloc(), bytes);
-    assert!(rt; says(read, expected), "{what}, byte by byte");
+    assert!(rt; is_expected(read, expected), "{what}, byte by byte");
     let read = table_of(rt.alloc(), bytes);
-    assert!(rt; says(read, expected), "{what}, as one slice");
+    assert!(rt; is_expected(read, expected), "{what}, as one slice");
 }
 
 #[test]
 fn costs_of_pieces(rt: HostRuntime) {
     let bytes = b"\r\n2 3\r\n \t\n0 2 100\r\n1 0 -9\n0 2 7\r\n1 1 32767";
-    expect_said(&rt, "a pair twice", bytes, Ok(&[0, 0, 7, -9, 32767, 0]));
+    expect_read(&rt, "a pair twice", bytes, Ok(&[0, 0, 7, -9, 32767, 0]));
 }
 
 #[test]
 fn listed_rows_of_pieces(rt: HostRuntime) {
     for (what, text, cost) in &LISTED {
-        expect_said(&rt, what, text.as_bytes(), Ok(&[*cost]));
+        expect_read(&rt, what, text.as_bytes(), Ok(&[*cost]));
     }
 }
 
 #[test]
 fn faults_of_pieces(rt: HostRuntime) {
     for (what, text, line, kind) in rows_of_matrices() {
-        expect_said(&rt, what, text, Err(kind.at(0, *line)));
+        expect_read(&rt, what, text, Err(kind.at(0, *line)));
     }
 }
 

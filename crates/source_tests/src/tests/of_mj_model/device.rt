@@ -8,7 +8,7 @@ use std::io::{Read, Write};
 
 /// Results of a device, by name.
 #[rattlefmt::skip]
-pub static ANSWERS: [(&str, Result<usize, ErrorKind>); 5] = [
+pub static RESULTS: [(&str, Result<usize, ErrorKind>); 5] = [
     // (what, the result)
     ("all of four bytes", Ok(4)),
     ("three of them",     Ok(3)),
@@ -32,7 +32,7 @@ pub fn kind_of<T>(returned: io::Result<T>) -> Result<T, ErrorKind> {
 pub struct Device {
     returned: Result<usize, ErrorKind>,
     calls: u64,
-    asked: usize,
+    requested: usize,
 }
 
 impl Device {
@@ -41,22 +41,22 @@ impl Device {
         Device {
             returned,
             calls: 0,
-            asked: 0,
+            requested: 0,
         }
     }
 
     /// Returns whether the device was called once, with a buffer of `count` bytes.
-    pub fn was_asked(&self, count: usize) -> bool {
-        self.calls == 1 && self.asked == count
+    pub fn was_called_with(&self, count: usize) -> bool {
+        self.calls == 1 && self.requested == count
     }
 
-    fn called(&mut self, asked: usize) -> io::Result<usize>
-        ensures { IfOk result (λ count. count ≤ asked) }
+    fn called(&mut self, requested: usize) -> io::Result<usize>
+        ensures { IfOk result (λ count. count ≤ requested) }
     {
         self.calls = self.calls.saturating_add(1);
-        self.asked = asked;
+        self.requested = requested;
         match self.returned {
-            Ok(count) => Ok(count.min(asked)),
+            Ok(count) => Ok(count.min(requested)),
             Err(kind) => Err(io::Error::from(kind)),
         }
     }

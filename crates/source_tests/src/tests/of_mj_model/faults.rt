@@ -121,8 +121,8 @@ fn is_reported_at(
     place: &(u32, u64, &str),
 ) -> Result<bool, Fail> {
     let (kind, code, name, text) = *row;
-    let (file, line, begin) = *place;
-    let text = format!(in alloc; "{begin}{text}")?;
+    let (file, line, start) = *place;
+    let text = format!(in alloc; "{start}{text}")?;
     is_printed_as(alloc, kind.at(file, line), code, name, text.as_str())
 }
 

@@ -1,6 +1,6 @@
 //! Counted reads.
 
-use super::device::{ANSWERS, Device, kind_of};
+use super::device::{Device, RESULTS, kind_of};
 use mj_model::{Counted, TextIn};
 use std::io::ErrorKind::{self, Interrupted, OutOfMemory, TimedOut};
 use std::io::Read;
@@ -44,7 +44,7 @@ fn is_read(
         && buffer == *bytes
         && counted.reads() == 1
         && (counted.ends(), counted.failures()) == counts
-        && counted.get_ref().was_asked(room)
+        && counted.get_ref().was_called_with(room)
 }
 
 #[test]
@@ -61,12 +61,12 @@ fn is_plain_read(given: Result<usize, ErrorKind>) -> bool {
     let got = kind_of(plain.read(&mut [0; 4]));
     got == given
         && (plain.reads(), plain.ends(), plain.failures()) == (0, 0, 0)
-        && plain.get_ref().was_asked(4)
+        && plain.get_ref().was_called_with(4)
 }
 
 #[test]
 fn plain_reads(rt: HostRuntime) {
-    for (what, given) in &ANSWERS {
+    for (what, given) in &RESULTS {
         assert!(rt; is_plain_read(*given), "{what}");
     }
 }

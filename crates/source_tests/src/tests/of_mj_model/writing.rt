@@ -1,6 +1,6 @@
 //! Counted writes and flushes.
 
-use super::device::{ANSWERS, Device, kind_of};
+use super::device::{Device, RESULTS, kind_of};
 use mj_model::{Counted, TextOut};
 use std::io::ErrorKind::{self, Interrupted, OutOfMemory, TimedOut};
 use std::io::Write;
@@ -39,7 +39,7 @@ fn is_written(
     let got = kind_of(counted.write_counted(bytes.as_bytes()));
     got == expected
         && (counted.failures(), counted.flushes(), counted.unflushed()) == (failures, 0, due)
-        && counted.get_ref().was_asked(bytes.len())
+        && counted.get_ref().was_called_with(bytes.len())
 }
 
 #[test]
@@ -70,7 +70,7 @@ fn is_flushed(
     let got = kind_of(counted.flush_counted());
     got == expected
         && (counted.failures(), counted.flushes(), counted.unflushed()) == (failures, 1, false)
-        && counted.get_ref().was_asked(0)
+        && counted.get_ref().was_called_with(0)
 }
 
 #[test]
@@ -89,12 +89,12 @@ fn has_no_counts(plain: &Counted<Device>) -> bool {
 fn is_plain_write(given: Result<usize, ErrorKind>) -> bool {
     let mut plain = Counted::new(Device::new(given));
     let got = kind_of(plain.write(b"zzzz"));
-    got == given && has_no_counts(&plain) && plain.get_ref().was_asked(4)
+    got == given && has_no_counts(&plain) && plain.get_ref().was_called_with(4)
 }
 
 #[test]
 fn plain_writes(rt: HostRuntime) {
-    for (what, given) in &ANSWERS {
+    for (what, given) in &RESULTS {
         assert!(rt; is_plain_write(*given), "{what}");
     }
 }
@@ -107,12 +107,12 @@ fn is_plain_flush(given: Result<usize, ErrorKind>) -> bool {
         Ok(_count) => Ok(()),
         Err(kind) => Err(kind),
     };
-    got == expected && has_no_counts(&plain) && plain.get_ref().was_asked(0)
+    got == expected && has_no_counts(&plain) && plain.get_ref().was_called_with(0)
 }
 
 #[test]
 fn plain_flushes(rt: HostRuntime) {
-    for (what, given) in &ANSWERS {
+    for (what, given) in &RESULTS {
         assert!(rt; is_plain_flush(*given), "{what}");
     }
 }

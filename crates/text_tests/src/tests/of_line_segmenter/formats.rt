@@ -17,7 +17,7 @@ const COSTS: &str = "すもも/名詞/100/110/110 もも/名詞/30/37/147 152\n"
 static FORMATS: [(&str, Texts, &str, &str); 4] = [
     // (what, (node, unk, bos, eos), line, output)
     ("cost_format", ("%m/%f[0]/%c/%pn/%pc\\s", None, "", "%pc\\n"), "すもももも", COSTS),
-    ("before and behind", ("%m/", None, "[%S]", "%L|%pc\\n"), "すもも", "[すもも]すもも/9|115\n"),
+    ("before and after", ("%m/", None, "[%S]", "%L|%pc\\n"), "すもも", "[すもも]すもも/9|115\n"),
     ("a part for unknown words", ("%m,", Some("<%m>%H"), "", ""), "もz", "も,<z>未知"),
     ("nothing", ("", None, "", ""), "も", ""),
 ];

@@ -1,6 +1,6 @@
 //! Allocation failures of formats and of output.
 //!
-//! Allocations fail under `tests/out_of_memory/run.py`, which expects the line `rejected` on
+//! Allocations fail under `tests/out_of_memory/run.py`, which expects the line `refused` on
 //! standard error.
 
 use dict_image::Dict;
@@ -66,51 +66,54 @@ fn expect_print(
 
 /// The format of a test case.
 #[derive(Clone, Copy)]
-enum Asked {
+enum TestFormat {
     /// A format of the texts of node and of eos.
     Texts(&'static str, &'static str),
     Tabs,
     Wakati,
 }
 
-fn asked_again(rt: &(impl Alloc<A = Global> + Eprint), asked: Asked) -> Result<Format, Fail> {
-    match asked {
-        Asked::Texts(node, eos) => format_again(rt, node, eos),
-        Asked::Tabs => tabs_again(rt),
-        Asked::Wakati => wakati_again(rt),
+fn test_format_again(
+    rt: &(impl Alloc<A = Global> + Eprint),
+    requested: TestFormat,
+) -> Result<Format, Fail> {
+    match requested {
+        TestFormat::Texts(node, eos) => format_again(rt, node, eos),
+        TestFormat::Tabs => tabs_again(rt),
+        TestFormat::Wakati => wakati_again(rt),
     }
 }
 
-/// Appends the output for the best path of `text` in the format `asked`, with one retry.
-fn expect_asked(
+/// Appends the output for the best path of `text` in the format `requested`, with one retry.
+fn expect_format(
     rt: &(impl Abort + Alloc<A = Global> + Eprint),
-    asked: Asked,
+    requested: TestFormat,
     dict: &Dict,
     text: &str,
     printed: &str,
 ) -> Result<(), Fail> {
-    let format = asked_again(rt, asked)?;
+    let format = test_format_again(rt, requested)?;
     expect_print(rt, &format, dict, text, printed)
 }
 
 #[test]
 fn formats_out_of_memory(rt: HostRuntime) -> Result<(), Fail> {
-    const COSTS: Asked = Asked::Texts("%m/%f[0]/%c/%pn/%pc\\s", "%pc\\n");
-    const PLACES: Asked = Asked::Texts("%M|%ps|%pe|%pl|%pL|%pS;", "%L\\n");
+    const COSTS: TestFormat = TestFormat::Texts("%m/%f[0]/%c/%pn/%pc\\s", "%pc\\n");
+    const PLACES: TestFormat = TestFormat::Texts("%M|%ps|%pe|%pl|%pL|%pS;", "%L\\n");
     let dict = dict_again(&rt, sample().lexicons)?;
     let letters = letters_again(&rt)?;
     #[rattlefmt::skip]
-    let rows: [(Asked, &Dict, &str, &str); 6] = [
+    let rows: [(TestFormat, &Dict, &str, &str); 6] = [
         // (format, dictionary, text, output)
-        (COSTS,         &dict,    "すもももも", "すもも/名詞/100/110/110 もも/名詞/30/37/147 152\n"),
-        (Asked::Tabs,   &dict,    "すもももも", "すもも\t名詞,すもも\nもも\t名詞,もも\nEOS\n"),
-        (Asked::Wakati, &dict,    "すもももも", "すもも もも \n"),
-        (Asked::Wakati, &dict,    SPACED,       "すもも もも \n"),
-        (PLACES,        &dict,    SPACED,       " すもも|1|10|9|10| ;  もも|12|18|6|8|  ;19\n"),
-        (Asked::Tabs,   &letters, "ab",         "a\tX\nb\tX\nEOS\n"),
+        (COSTS,              &dict,    "すもももも", "すもも/名詞/100/110/110 もも/名詞/30/37/147 152\n"),
+        (TestFormat::Tabs,   &dict,    "すもももも", "すもも\t名詞,すもも\nもも\t名詞,もも\nEOS\n"),
+        (TestFormat::Wakati, &dict,    "すもももも", "すもも もも \n"),
+        (TestFormat::Wakati, &dict,    SPACED,       "すもも もも \n"),
+        (PLACES,             &dict,    SPACED,       " すもも|1|10|9|10| ;  もも|12|18|6|8|  ;19\n"),
+        (TestFormat::Tabs,   &letters, "ab",         "a\tX\nb\tX\nEOS\n"),
     ];
-    for (asked, dict, text, printed) in rows {
-        expect_asked(&rt, asked, dict, text, printed)?;
+    for (requested, dict, text, printed) in rows {
+        expect_format(&rt, requested, dict, text, printed)?;
     }
     Ok(())
 }

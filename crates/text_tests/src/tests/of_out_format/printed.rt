@@ -56,7 +56,7 @@ fn run_of(alloc: Global, (line, node, unk, bos, eos): Texts, text: &str) -> Resu
 fn expect_outputs(rt: &(impl Abort + Alloc<A = Global>), rows: &[Row]) -> Result<(), Fail> {
     for (what, texts, text, output) in rows {
         let outcome = run_of(rt.alloc(), *texts, text)?;
-        assert!(rt; outcome.answer.is_ok(), "{what}");
+        assert!(rt; outcome.returned.is_ok(), "{what}");
         assert!(rt; outcome.written.as_slice() == output.as_bytes(), "{what}");
     }
     Ok(())
@@ -71,7 +71,7 @@ static FORMATS: [Row; 15] = [
     ("blanks_in_wakati", ("", PLACES, None, "", "%L\\n"), SPACED, PLACES_OF_SPACED),
     ("chain_over_prolonged_mark", (MARK, "%m:%t:%pc", None, "", "\\n"), "アーす", "アーす:3:1010\n"),
     ("ids and connections", ("", "%phl,%phr,%pC;", None, "", "EOS\\n"), "すもももも\n", IDS),
-    ("before and behind", ("", "%m/", None, "[%S]", "%L|%pc\\n"), "すもも", "[すもも]すもも/9|115\n"),
+    ("before and after", ("", "%m/", None, "[%S]", "%L|%pc\\n"), "すもも", "[すもも]すもも/9|115\n"),
     ("known and unknown", ("", "%m:%s\\s", None, "", "EOS\\n"), "もz", "も:0 z:1 EOS\n"),
     ("a part for unknown words", ("", "%m,", Some("<%m>%H"), "", ""), "もz", "も,<z>未知"),
     ("bad_items", ("", "%f[9]|%f[0]|%%\\s", None, "", ""), "z", "|未知|% "),
@@ -163,7 +163,7 @@ fn costs_of_long_lines(rt: HostRuntime) -> Result<(), Fail> {
 }
 
 #[test]
-fn a_path_behind_other_text(rt: HostRuntime) -> Result<(), Fail> {
+fn a_path_after_other_text(rt: HostRuntime) -> Result<(), Fail> {
     let text = "すもももも";
     let system = system_dict(rt.alloc(), &sample())?;
     let dictionaries = Dictionaries::new(&system, &[])?;

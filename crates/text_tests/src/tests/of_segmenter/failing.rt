@@ -18,7 +18,7 @@ const MO_OUTPUT: &str = "も\t助詞,も\nEOS\n";
 /// The result of a run, and the counts of its calls.
 #[derive(Drop)]
 struct Ended {
-    answer: Result<u64, RunFault>,
+    returned: Result<u64, RunFault>,
     reads: u64,
     failed_reads: u64,
     failed_writes: u64,
@@ -30,7 +30,7 @@ fn run(alloc: Global, input: StepReader<'_>, out: &mut StepWriter) -> Result<End
     let format = Format::default_of(alloc)?;
     let mut input = Counted::new(input);
     let mut out = Counted::new(out);
-    let answer = run_sources(
+    let returned = run_sources(
         alloc,
         &sample(),
         &[],
@@ -40,7 +40,7 @@ fn run(alloc: Global, input: StepReader<'_>, out: &mut StepWriter) -> Result<End
         &mut out,
     );
     Ok(Ended {
-        answer,
+        returned,
         reads: input.reads(),
         failed_reads: input.failures(),
         failed_writes: out.failures(),
@@ -59,12 +59,12 @@ type WriterRow = (&'static str, Writes, Result<u64, RunFault>, usize, u64);
 /// Returns whether a run ended as `row` expects without a failed read, and wrote a prefix of the
 /// output.
 fn is_ended(got: &Ended, out: &StepWriter, row: &WriterRow) -> bool {
-    let (_what, _writes, answer, taken, flushes) = *row;
-    let failed_writes = if answer.is_ok() { 0 } else { 1 };
+    let (_what, _writes, wanted, taken, flushes) = *row;
+    let failed_writes = if wanted.is_ok() { 0 } else { 1 };
     let are_failures = got.failed_reads == 0 && got.failed_writes == failed_writes;
     let are_flushes = got.flushes == flushes && out.flushes == flushes;
     let is_taken = Some(out.taken.as_slice()) == SUMOMO_OUTPUT.as_bytes().get(..taken);
-    got.answer == answer && are_failures && are_flushes && is_taken
+    got.returned == wanted && are_failures && are_flushes && is_taken
 }
 
 /// Checks how a run over the sample's line ends.
@@ -123,7 +123,7 @@ fn is_failed_read(got: &Ended, out: &StepWriter, read: u64) -> bool {
     let are_reads = got.reads == read && got.failed_reads == 1;
     let are_writes = got.failed_writes == 0 && got.flushes == 0;
     let is_taken = out.taken.as_slice() == output.as_bytes();
-    got.answer == Err(RunFault::Read(line)) && are_reads && are_writes && is_taken
+    got.returned == Err(RunFault::Read(line)) && are_reads && are_writes && is_taken
 }
 
 /// Checks how a run over the sample's line ends if read number `read` fails.
@@ -155,7 +155,7 @@ fn failing_readers(rt: HostRuntime) -> Result<(), Fail> {
 /// Returns whether a run ends with `fault` after the output of line 1.
 ///
 /// Line 2 of `text` is invalid, or read number `fails_at` fails.
-fn is_fault_behind_line_1(
+fn is_fault_after_line_1(
     alloc: Global,
     text: &[u8],
     fails_at: Option<u64>,
@@ -164,28 +164,28 @@ fn is_fault_behind_line_1(
     let mut out = writer(alloc, usize::MAX, usize::MAX);
     let got = run(alloc, reader(text, usize::MAX, fails_at), &mut out)?;
     let is_taken = out.taken.as_slice() == MO_OUTPUT.as_bytes();
-    Ok(got.answer == Err(fault) && got.flushes == 0 && is_taken)
+    Ok(got.returned == Err(fault) && got.flushes == 0 && is_taken)
 }
 
 #[rattlefmt::skip]
-static FAULTS_BEHIND_LINE_1: [(&str, &[u8], Option<u64>, RunFault); 2] = [
+static FAULTS_AFTER_LINE_1: [(&str, &[u8], Option<u64>, RunFault); 2] = [
     // (what, text, failing read, result)
     ("read fails", b"\xe3\x82\x82\n\xe3\x81\x99", Some(2), RunFault::Read(2)),
     ("not UTF-8",  b"\xe3\x82\x82\n\xff\n",       None,    RunFault::NotUtf8(2)),
 ];
 
 #[test]
-fn faults_behind_line_1(rt: HostRuntime) -> Result<(), Fail> {
-    for (what, text, fails_at, fault) in &FAULTS_BEHIND_LINE_1 {
-        let is_told = is_fault_behind_line_1(rt.alloc(), text, *fails_at, *fault)?;
-        assert!(rt; is_told, "{what}");
+fn faults_after_line_1(rt: HostRuntime) -> Result<(), Fail> {
+    for (what, text, fails_at, fault) in &FAULTS_AFTER_LINE_1 {
+        let is_reported = is_fault_after_line_1(rt.alloc(), text, *fails_at, *fault)?;
+        assert!(rt; is_reported, "{what}");
     }
     Ok(())
 }
 
 /// Runs over three lines, with `step` bytes in each read and a writer with room for `room` bytes.
 /// Returns the result and the number of reads.
-fn answer_and_reads(
+fn result_and_reads(
     alloc: Global,
     step: usize,
     room: usize,
@@ -193,7 +193,7 @@ fn answer_and_reads(
     let mut out = writer(alloc, usize::MAX, room);
     let input = reader("も\nも\nも\n".as_bytes(), step, None);
     let got = run(alloc, input, &mut out)?;
-    Ok((got.answer, got.reads))
+    Ok((got.returned, got.reads))
 }
 
 #[rattlefmt::skip]
@@ -207,9 +207,9 @@ static READS: [(&str, usize, usize, Result<u64, RunFault>, u64); 4] = [
 
 #[test]
 fn worked_through_before_the_next_read(rt: HostRuntime) -> Result<(), Fail> {
-    for (what, step, room, answer, reads) in &READS {
-        let got = answer_and_reads(rt.alloc(), *step, *room)?;
-        assert!(rt; got == (*answer, *reads), "{what}");
+    for (what, step, room, wanted, reads) in &READS {
+        let got = result_and_reads(rt.alloc(), *step, *room)?;
+        assert!(rt; got == (*wanted, *reads), "{what}");
     }
     Ok(())
 }
@@ -251,13 +251,13 @@ fn tabs(bytes: &[u8]) -> usize {
 
 /// Returns whether a run over a long line ends as `row` expects, with all of its words or none.
 fn is_long_line(alloc: Global, row: &LineRow) -> Result<bool, AllocError> {
-    let (_what, first, length, ends, fails_at, reads, answer) = *row;
+    let (_what, first, length, ends, fails_at, reads, wanted) = *row;
     let line = long_line(alloc, first, length, ends)?;
     let mut out = writer(alloc, usize::MAX, usize::MAX);
     let got = run(alloc, reader(&line, usize::MAX, fails_at), &mut out)?;
     // All letters except the last 25 are single words.
-    let words = if answer.is_ok() { SENTENCE_MAX - 24 } else { 0 };
-    Ok(got.answer == answer && got.reads == reads && tabs(&out.taken) == words)
+    let words = if wanted.is_ok() { SENTENCE_MAX - 24 } else { 0 };
+    Ok(got.returned == wanted && got.reads == reads && tabs(&out.taken) == words)
 }
 
 #[rattlefmt::skip]

@@ -31,8 +31,8 @@ fn segment(rt: &(impl Abort + Alloc<A = Global>), lines: usize) -> Result<(), Fa
     let dictionaries = overlay(&dict, &[])?;
     let text = lines_of_letters(rt.alloc(), lines)?;
     let mut written = Vec::with_capacity(rt.alloc(), 2 * PRINTED.len())?;
-    let answer = segment_text(rt.alloc(), &dictionaries, &format, &text, &mut written);
-    assert!(rt; answer == Ok(lines as u64));
+    let result = segment_text(rt.alloc(), &dictionaries, &format, &text, &mut written);
+    assert!(rt; result == Ok(lines as u64));
     assert_eq!(rt; written.len(), lines.saturating_mul(PRINTED.len()));
     assert!(rt; written.starts_with(PRINTED.as_bytes()));
     assert!(rt; written.ends_with(PRINTED.as_bytes()));

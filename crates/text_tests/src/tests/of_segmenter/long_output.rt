@@ -31,8 +31,8 @@ fn written(
     let mut reader = Counted::new(text.as_slice());
     let mut out = device(alloc, usize::MAX, usize::MAX);
     let mut writer = Counted::new(&mut out);
-    let answer = segment(alloc, dictionaries, format, &mut reader, &mut writer);
-    Ok((answer, out))
+    let result = segment(alloc, dictionaries, format, &mut reader, &mut writer);
+    Ok((result, out))
 }
 
 /// The number of empty lines, the letters that each prints, all bytes, and the bytes of the longest
@@ -47,8 +47,8 @@ fn expect_pieces(
     (lines, count, all, longest): Pieces,
 ) -> Result<(), Fail> {
     let format = letters_format(rt.alloc(), count)?;
-    let (answer, out) = written(rt.alloc(), dictionaries, &format, lines)?;
-    assert!(rt; answer == Ok(lines as u64), "{what}");
+    let (result, out) = written(rt.alloc(), dictionaries, &format, lines)?;
+    assert!(rt; result == Ok(lines as u64), "{what}");
     assert_eq!(rt; out.taken.len(), all, "{what}");
     assert_eq!(rt; out.longest, longest, "{what}");
     Ok(())

@@ -1,6 +1,6 @@
 //! Allocation failures of runs.
 //!
-//! Allocations fail under `tests/out_of_memory/run.py`, which expects the line `rejected` on
+//! Allocations fail under `tests/out_of_memory/run.py`, which expects the line `refused` on
 //! standard error.
 
 use mj_model::{Counted, GROUPING_DEFAULT, RunFault, TextIn, sample};
@@ -50,11 +50,11 @@ fn room_again(rt: &(impl Alloc<A = Global> + Eprint)) -> Result<Vec<u8>, Fail> {
 /// Checks the result of a run, which must be `Ok` or an allocation failure.
 fn expect_run(
     rt: &(impl Abort + Eprint),
-    answer: Result<u64, RunFault>,
+    returned: Result<u64, RunFault>,
     written: &[u8],
     reads: u64,
 ) -> Result<(), Fail> {
-    let line = match answer {
+    let line = match returned {
         Ok(lines) => {
             assert_eq!(rt; lines, 3);
             4
@@ -77,8 +77,8 @@ fn runs_out_of_memory(rt: HostRuntime) -> Result<(), Fail> {
     let dict = dict_again(&rt, sample().lexicons)?;
     let dictionaries = overlay(&dict, &[])?;
     let text = TEXT.as_bytes();
-    let answer = segment_text(rt.alloc(), &dictionaries, &format, text, &mut written);
-    expect_run(&rt, answer, &written, 1)
+    let result = segment_text(rt.alloc(), &dictionaries, &format, text, &mut written);
+    expect_run(&rt, result, &written, 1)
 }
 
 #[test]
@@ -87,7 +87,7 @@ fn sources_out_of_memory(rt: HostRuntime) -> Result<(), Fail> {
     let mut written = room_again(&rt)?;
     let mut reader = Counted::new(TEXT.as_bytes());
     let mut writer = Counted::new(&mut written);
-    let answer = run_sources(
+    let result = run_sources(
         rt.alloc(),
         &sample(),
         &[],
@@ -96,5 +96,5 @@ fn sources_out_of_memory(rt: HostRuntime) -> Result<(), Fail> {
         &mut reader,
         &mut writer,
     );
-    expect_run(&rt, answer, &written, reader.reads())
+    expect_run(&rt, result, &written, reader.reads())
 }

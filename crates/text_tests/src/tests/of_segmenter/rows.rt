@@ -12,11 +12,11 @@ fn expect_output(
     what: &str,
     sources: &Sources<'_>,
     text: &str,
-    answer: Result<u64, RunFault>,
+    expected: Result<u64, RunFault>,
     output: &str,
 ) {
     let outcome = run(rt.alloc(), sources, &[], text.as_bytes());
-    assert!(rt; outcome.answer == answer, "{what}");
+    assert!(rt; outcome.returned == expected, "{what}");
     assert!(rt; outcome.written.as_slice() == output.as_bytes(), "{what}");
 }
 
@@ -37,15 +37,15 @@ static SAMPLE_LINES: [(&str, &str, Result<u64, RunFault>, &str); 11] = [
     ("blanks between words", " すもも  もも \n", Ok(1), "すもも\t名詞,すもも\nもも\t名詞,もも\nEOS\n"),
     ("two lines", "も\nもも", Ok(2), "も\t助詞,も\nEOS\nもも\t名詞,もも\nEOS\n"),
     ("an unknown word on line 2", "も\nx\n", Ok(2), "も\t助詞,も\nEOS\nx\t未知\nEOS\n"),
-    ("an unknown word behind known ones", "すもももx\n", Ok(1), WITH_X),
+    ("an unknown word after known ones", "すもももx\n", Ok(1), WITH_X),
     ("an ideographic space is a character", WIDE, Ok(1), WIDE_WORDS),
     ("tokyo_tie", "東京都\n", Ok(1), "東京\t未知\n都\t未知\nEOS\n"),
 ];
 
 #[test]
 fn sample_lines(rt: HostRuntime) {
-    for (what, text, answer, output) in &SAMPLE_LINES {
-        expect_output(&rt, what, &sample(), text, *answer, output);
+    for (what, text, expected, output) in &SAMPLE_LINES {
+        expect_output(&rt, what, &sample(), text, *expected, output);
     }
 }
 
@@ -144,5 +144,5 @@ fn lexicons_in_the_order_given(rt: HostRuntime) {
         kind: SourceKind::TooFewFields,
     };
     let outcome = run(rt.alloc(), &sources, &[], b"");
-    assert!(rt; outcome.is_refusal(RunFault::Source(fault)));
+    assert!(rt; outcome.is_rejection(RunFault::Source(fault)));
 }

@@ -22,7 +22,7 @@ fn expect_output(
     output: &str,
 ) {
     let outcome = run_in(rt.alloc(), format, &sample(), users, MOMO.as_bytes());
-    assert!(rt; outcome.answer == Ok(1), "{what}");
+    assert!(rt; outcome.returned == Ok(1), "{what}");
     assert!(rt; outcome.written.as_slice() == output.as_bytes(), "{what}");
 }
 
@@ -60,7 +60,7 @@ fn costs_of_users_words(rt: HostRuntime) -> Result<(), Fail> {
 
 /// Checks that a run fails with an error in line 1 of a lexicon of user dictionary `user`, before
 /// it reads or writes.
-fn expect_refusal(
+fn expect_rejection(
     rt: &(impl Abort + Alloc<A = Global>),
     what: &str,
     users: &[&[&[u8]]],
@@ -75,7 +75,7 @@ fn expect_refusal(
         kind,
     };
     assert!(rt;
-        outcome.is_refusal(RunFault::UserSource(user, fault)),
+        outcome.is_rejection(RunFault::UserSource(user, fault)),
         "{what}"
     );
 }
@@ -87,9 +87,9 @@ fn invalid_users(rt: HostRuntime) {
     let outside = "も,2,1,5,Z\n".as_bytes();
     let number = SourceKind::BadNumber;
     let id = SourceKind::IdOutside;
-    expect_refusal(&rt, "the second user", &[&[user], &[bad]], 1, 3, number);
-    expect_refusal(&rt, "both users", &[&[outside], &[bad]], 0, 3, id);
-    expect_refusal(
+    expect_rejection(&rt, "the second user", &[&[user], &[bad]], 1, 3, number);
+    expect_rejection(&rt, "both users", &[&[outside], &[bad]], 0, 3, id);
+    expect_rejection(
         &rt,
         "a user's second lexicon",
         &[&[user, bad]],
@@ -97,7 +97,7 @@ fn invalid_users(rt: HostRuntime) {
         4,
         number,
     );
-    expect_refusal(&rt, "an id outside", &[&[outside]], 0, 3, id);
+    expect_rejection(&rt, "an id outside", &[&[outside]], 0, 3, id);
 }
 
 #[test]
@@ -113,7 +113,7 @@ fn sources_before_users(rt: HostRuntime) {
         line: 1,
         kind: SourceKind::TooFewFields,
     };
-    assert!(rt; outcome.is_refusal(RunFault::Source(fault)));
+    assert!(rt; outcome.is_rejection(RunFault::Source(fault)));
 }
 
 /// Checks the output of a run over loaded dictionaries in `format`.

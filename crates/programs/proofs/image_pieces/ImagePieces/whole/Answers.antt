@@ -7,4 +7,4 @@ pub returns-clause-digest : goal.returns-clause-digest
 returns-clause-digest c = λ bytes come.
     let is = c.deref.ensures.value ∙ come.bytes_are in
     let hashed = subst (λ (b : List ℕ). IfSome c.args.self.hashed (HasHashed (digest_place b) b)) (sym is) come.hashed in
-    subst (λ (b : List ℕ). AgreeOnDigest c.args.asked c.remaining_test-digest.result b) is (c.remaining_test-digest.ensures hashed)
+    subst (λ (b : List ℕ). AgreeOnDigest c.args.requested c.remaining_test-digest.result b) is (c.remaining_test-digest.ensures hashed)

@@ -2,7 +2,7 @@ use Rattle.std.proofs.Common.{◌≡◌, ℕ, None, length, get_or, pos, sym, su
 use Rattle.std.proofs.lemmas.Option.{slice_get-get_or}
 use Rattle.viterbi.proofs.WordNumbers.{no_word}
 use Rattle.viterbi.specs.declared.nodes.lattice_node.LatticeNode.{LatticeNode}
-use Rattle.viterbi.proofs.OnPathLemmas.{AreToldTo, reported_all, reported_more, reported_none}
+use Rattle.viterbi.proofs.OnPathLemmas.{AreMarkedTo, reported_all, reported_more, reported_none}
 use Rattle.viterbi.proofs.nodes.on_path.mark_nodes_on_path.Goals as goal
 
 abbrev no_node : LatticeNode
@@ -12,7 +12,7 @@ pub first_word_from-next-requires : goal.first_word_from-next-requires
 first_word_from-next-requires c = c.loop-i.invariant.within
 
 pub loop-i-init : goal.loop-i-init
-loop-i-init c = subst (AreToldTo c.args.nodes.now c.args.path.now 0 0) (sym c.new-on.ensures.items) (reported_none c.args.nodes.now c.args.path.now)
+loop-i-init c = subst (AreMarkedTo c.args.nodes.now c.args.path.now 0 0) (sym c.new-on.ensures.items) (reported_none c.args.nodes.now c.args.path.now)
 
 pub loop-i-preserved : goal.loop-i-preserved
 loop-i-preserved c =
@@ -26,4 +26,4 @@ pub returns : goal.returns
 returns c =
     let nodes = c.args.nodes.now in
     let all : c.loop-i.i ≡ length nodes = omega (arith, c.loop-i.auto.i-end, c.loop-i-test.false) in
-    reported_all nodes c.args.path.now c.loop-i.next c.loop-i.on.items (subst (λ (n : ℕ). AreToldTo nodes c.args.path.now n c.loop-i.next c.loop-i.on.items) all c.loop-i.invariant)
+    reported_all nodes c.args.path.now c.loop-i.next c.loop-i.on.items (subst (λ (n : ℕ). AreMarkedTo nodes c.args.path.now n c.loop-i.next c.loop-i.on.items) all c.loop-i.invariant)

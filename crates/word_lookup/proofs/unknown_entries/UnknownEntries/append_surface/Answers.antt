@@ -4,7 +4,7 @@ use Rattle.image_format.specs.ImageMeaning.{image_tables}
 use Rattle.dict_image.specs.Numbered.{numbered_tokens}
 use Rattle.mj_model.specs.declared.paths.entry_list.EntryList.TheVariants.{Categories}
 use Rattle.word_lookup.specs.Overlays.{overlay_of}
-use Rattle.word_lookup.proofs.RowLemmas.{StandsAtNumber, unknown_appear}
+use Rattle.word_lookup.proofs.RowLemmas.{LiesAtNumber, unknown_appear}
 use Rattle.word_lookup.proofs.SurfaceLemmas.{surface_appended}
 use Rattle.word_lookup.proofs.TableLemmas.{all_fit}
 use Rattle.word_lookup.proofs.UnknownWords.{words_from_start}
@@ -21,5 +21,5 @@ returns-clause-appended c =
     let t = image_tables d.system.now in
     let appear = unknown_appear t c.args.self.category (all_fit d).0 c.args.self.there in
     surface_appended (overlay_of d) c.args.at Categories c.row-row.result c.args.end c.surface.result c.unknown.result _ _ _ c.surface.ensures c.in_ok-push.ensures.items c.row-row.ensures
-    (subst (AllByRecursion (StandsAtNumber (numbered_tokens t))) (sym c.unknown.ensures.unknown) appear) c.unknown.ensures.some
+    (subst (AllByRecursion (LiesAtNumber (numbered_tokens t))) (sym c.unknown.ensures.unknown) appear) c.unknown.ensures.some
     (words_from_start c.args.at.place c.args.at.start c.args.end c.unknown.result (t.unknown c.args.self.category) c.requires c.unknown.ensures.unknown)

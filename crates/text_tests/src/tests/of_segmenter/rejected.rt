@@ -11,8 +11,8 @@ use std::test::Fail;
 use test_support::samples::run;
 
 /// Returns whether a run over `sources` fails with `fault`, before it reads or writes.
-fn is_refused(alloc: Global, sources: &Sources<'_>, fault: SourceFault) -> bool {
-    run(alloc, sources, &[], "も\n".as_bytes()).is_refusal(RunFault::Source(fault))
+fn is_rejected(alloc: Global, sources: &Sources<'_>, fault: SourceFault) -> bool {
+    run(alloc, sources, &[], "も\n".as_bytes()).is_rejection(RunFault::Source(fault))
 }
 
 #[rattlefmt::skip]
@@ -39,15 +39,15 @@ fn matrix_and_lexicon(rt: HostRuntime) {
             ..sample()
         };
         let fault = kind.at(*file, *line);
-        assert!(rt; is_refused(rt.alloc(), &sources, fault), "{what}");
+        assert!(rt; is_rejected(rt.alloc(), &sources, fault), "{what}");
     }
 }
 
-/// Returns the lines of `text` that don't start with `begins`.
-fn without(alloc: Global, text: &[u8], begins: &str) -> Result<String, Fail> {
+/// Returns the lines of `text` that don't start with `prefix`.
+fn without(alloc: Global, text: &[u8], prefix: &str) -> Result<String, Fail> {
     let mut kept = String::new(alloc);
     for line in std::str::from_utf8(text)?.lines() {
-        if !line.starts_with(begins) {
+        if !line.starts_with(prefix) {
             kept.push_str(line)?;
             kept.push('\n')?;
         }
@@ -67,7 +67,7 @@ type LinesRow = (
 );
 
 /// Returns whether a run over the sample with changed lines fails with the error of `row`.
-fn lines_are_refused(alloc: Global, row: &LinesRow) -> Result<bool, Fail> {
+fn lines_are_rejected(alloc: Global, row: &LinesRow) -> Result<bool, Fail> {
     let (_what, no_chars, no_unk, chars, unk, (kind, file, line)) = row;
     let mut char_lines = without(alloc, sample().chars, no_chars)?;
     char_lines.push_str(chars)?;
@@ -78,7 +78,7 @@ fn lines_are_refused(alloc: Global, row: &LinesRow) -> Result<bool, Fail> {
         unk: unk_lines.as_bytes(),
         ..sample()
     };
-    Ok(is_refused(alloc, &sources, kind.at(*file, *line)))
+    Ok(is_rejected(alloc, &sources, kind.at(*file, *line)))
 }
 
 const ALL: &str = "none";
@@ -102,7 +102,7 @@ static LINES: [LinesRow; 8] = [
 fn categories_and_unknown_entries(rt: HostRuntime) -> Result<(), Fail> {
     for row in &LINES {
         let what = row.0;
-        let rejected = lines_are_refused(rt.alloc(), row)?;
+        let rejected = lines_are_rejected(rt.alloc(), row)?;
         assert!(rt; rejected, "{what}");
     }
     Ok(())

@@ -8,7 +8,7 @@ use Rattle.programs.specs.declared.reading.ReadFault.{ReadFault}
 use Rattle.programs.specs.declared.reading.ReadFault.TheVariants.{Endless}
 use Rattle.programs.proofs.ImageHeadLemmas.{longer_after}
 use Rattle.programs.proofs.Results.{same_read}
-use Rattle.programs.proofs.image_reading.read_rest.Goals as goal
+use Rattle.programs.proofs.image_reading.read_remainder.Goals as goal
 
 pub returns-in-Ok-Whole-clause-whole : goal.returns-in-Ok-Whole-clause-whole
 returns-in-Ok-Whole-clause-whole g c =

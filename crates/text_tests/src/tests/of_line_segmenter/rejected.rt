@@ -11,7 +11,7 @@ const MOMO: &str = "もも\t名詞,もも\nEOS\n";
 
 /// Checks the error of segmenting `bytes` as a line, and as a whole text if `as_text` is given. The
 /// last segmentation must stay.
-fn expect_refused(
+fn expect_rejected(
     rt: &(impl Abort + Alloc<A = Global>),
     segmenter: &mut Segmenter,
     (what, bytes): (&str, &[u8]),
@@ -31,7 +31,7 @@ fn expect_refused(
 const MO_TWICE: &[u8] = b"\xe3\x82\x82\n\xe3\x82\x82";
 
 #[rattlefmt::skip]
-static REFUSED_TEXTS: [(&str, &[u8], SegmentFault, Option<SegmentFault>); 4] = [
+static REJECTED_TEXTS: [(&str, &[u8], SegmentFault, Option<SegmentFault>); 4] = [
     // (what, bytes, error as a line, error as a text)
     ("a line feed",       MO_TWICE, SegmentFault::LineFeed(3), None),
     ("a line feed alone", b"\n",    SegmentFault::LineFeed(0), None),
@@ -50,12 +50,12 @@ fn invalid_texts(rt: HostRuntime) -> Result<(), Fail> {
     segmenter.segment("もも".as_bytes())?;
     let long = Vec::from_elem(alloc, b'z', SENTENCE_MAX + 1)?;
     let long_no_text = Vec::from_elem(alloc, 0xffu8, SENTENCE_MAX + 1)?;
-    for (what, bytes, as_line, as_text) in &REFUSED_TEXTS {
-        expect_refused(&rt, &mut segmenter, (what, bytes), *as_line, *as_text)?;
+    for (what, bytes, as_line, as_text) in &REJECTED_TEXTS {
+        expect_rejected(&rt, &mut segmenter, (what, bytes), *as_line, *as_text)?;
     }
     let too_long = SegmentFault::TooLong;
     for (what, bytes) in [("too long", &long), ("too long, no text", &long_no_text)] {
-        expect_refused(&rt, &mut segmenter, (what, bytes), too_long, Some(too_long))?;
+        expect_rejected(&rt, &mut segmenter, (what, bytes), too_long, Some(too_long))?;
     }
     Ok(())
 }
