@@ -45,9 +45,9 @@ typedef struct kumquatsieve_segmenter {
 typedef struct kumquatsieve_error {
     uint32_t code;
     uint64_t number;
-    size_t position;   /* in bytes, from 0 */
-    size_t image;      /* of the dictionary: 0 for the system's, 1 and more for users' */
-    char message[256]; /* a sentence for the user, cut off if it is too long */
+    size_t position;    /* in bytes, from 0 */
+    size_t image;       /* of the dictionary: 0 for the system's, 1 and more for users' */
+    char message[1024]; /* a sentence for the user; "..." replaces what does not fit */
 } kumquatsieve_error;
 
 /* The codes. Letter and number are those of `jseg --explain` and kumquatsieve_explain. */
@@ -291,7 +291,7 @@ uint32_t kumquatsieve_version(void);
 #if UINTPTR_MAX == UINT64_MAX && (__STDC_VERSION__ + 0 >= 201112L || __cplusplus + 0 >= 201103L)
 #include <assert.h>
 static_assert(sizeof(kumquatsieve_segmenter) == 24, "layout of a segmenter");
-static_assert(sizeof(kumquatsieve_error) == 288, "layout of an error");
+static_assert(sizeof(kumquatsieve_error) == 1056, "layout of an error");
 static_assert(sizeof(kumquatsieve_info) == 104, "layout of an info");
 static_assert(sizeof(kumquatsieve_line) == 32, "layout of a line");
 static_assert(sizeof(kumquatsieve_word) == 72, "layout of a word");

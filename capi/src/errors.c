@@ -86,20 +86,23 @@ static const char *shown_end(const char *what) {
     return end;
 }
 
-/* Writes the message: what failed, the sentence, and the name of the code. A longer message is cut
-   off at the end of a character. */
+/* Writes the message: what failed, the sentence, and the name of the code. If it is too long, "..."
+   replaces the end of the sentence, from the start of a character. */
 static void write_message(kumquatsieve_error *error, const char *what, const char *sentence) {
+    static const char DOTS[] = "...";
     char name[NAME_ROOM];
     const char *shown = what ? shown_end(what) : "";
     int written = snprintf(error->message, sizeof error->message, "%s%s%s%s",
-                           shown != what && what ? "..." : "", shown, what ? ": " : "", sentence);
+                           shown != what && what ? DOTS : "", shown, what ? ": " : "", sentence);
     size_t room = sizeof error->message, length = written > 0 ? (size_t)written : 0;
     write_name(error->code, name);
-    size_t kept = room - 1 - strlen(name) - strlen(" ()");
-    if (length > kept) {
-        for (length = kept; length > 0 && continues_character(error->message[length]);) length--;
+    size_t most = room - 1 - strlen(name) - strlen(" ()");
+    bool is_long = length > most;
+    if (is_long) {
+        length = most - strlen(DOTS);
+        while (length > 0 && continues_character(error->message[length])) length--;
     }
-    snprintf(error->message + length, room - length, " (%s)", name);
+    snprintf(error->message + length, room - length, "%s (%s)", is_long ? DOTS : "", name);
 }
 
 uint32_t succeed(kumquatsieve_error *error) {
@@ -111,33 +114,33 @@ uint32_t succeed(kumquatsieve_error *error) {
     return KUMQUATSIEVE_OK;
 }
 
-/* Fills an error with the sentence of its code. */
-static uint32_t fill(kumquatsieve_error *error, kumquatsieve_error with, const char *what) {
+/* Fills an error with the sentence of its code. Calls that succeed end here too, so the numbers are
+   passed one by one: to copy an error takes longer than some of these calls. */
+static uint32_t fill(kumquatsieve_error *error, uint32_t code, uint64_t number, size_t position,
+                     size_t image, const char *what) {
     char sentence[NAME_ROOM + SHOWN_MOST];
-    if (with.code == KUMQUATSIEVE_OK) return succeed(error);
-    if (!error) return with.code;
-    *error = with;
-    if (with.code == KUMQUATSIEVE_MEMORY) {
+    if (code == KUMQUATSIEVE_OK) return succeed(error);
+    if (!error) return code;
+    *error =
+        (kumquatsieve_error){.code = code, .number = number, .position = position, .image = image};
+    if (code == KUMQUATSIEVE_MEMORY) {
         strcpy(error->message, "out of memory");
     } else {
         write_sentence(error, sentence, sizeof sentence);
         write_message(error, what, sentence);
     }
-    return with.code;
+    return code;
 }
 
-uint32_t fail(kumquatsieve_error *error, uint32_t code) {
-    return fill(error, (kumquatsieve_error){.code = code}, NULL);
-}
+uint32_t fail(kumquatsieve_error *error, uint32_t code) { return fill(error, code, 0, 0, 0, NULL); }
 
 uint32_t fail_at(kumquatsieve_error *error, uint32_t code, uint64_t number, size_t position) {
-    return fill(error, (kumquatsieve_error){.code = code, .number = number, .position = position},
-                NULL);
+    return fill(error, code, number, position, 0, NULL);
 }
 
 uint32_t fail_image(kumquatsieve_error *error, uint32_t code, uint64_t number, size_t image,
                     const char *what) {
-    return fill(error, (kumquatsieve_error){.code = code, .number = number, .image = image}, what);
+    return fill(error, code, number, 0, image, what);
 }
 
 uint32_t fail_file(kumquatsieve_error *error, int why, size_t image, const char *what) {

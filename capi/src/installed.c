@@ -144,7 +144,7 @@ bool only_system_image(char **path, size_t *count) {
     return has_memory;
 }
 
-/* The sentence of an error. What is longer than a message is left out. */
+/* The sentence of an error. What a message has no room for is left out. */
 typedef struct sentence {
     char text[sizeof((kumquatsieve_error *)NULL)->message];
 } sentence;
@@ -168,7 +168,6 @@ uint32_t fail_unknown(kumquatsieve_error *error, size_t number, const char *name
         path[strlen(path) - strlen(IMAGE_END)] = 0;
         append(&why, i == 0 ? "" : ", ", file_of(path));
     }
-    append(&why, "; ", "compile an image with kumquatsieve-import");
     free_image_dirs(&dirs);
     free_paths(&found);
     return has_memory ? fail_name(error, number, name, why.text) : fail(error, KUMQUATSIEVE_MEMORY);

@@ -24,7 +24,6 @@ int report_error(connection *of, const kumquatsieve_error *error) {
 
 int open_segmenter(word_reader *of, const char *list, uint32_t flags) {
     kumquatsieve_dictionary *opened = NULL;
-    kumquatsieve_error error;
     size_t most = strlen(list) + 1, count = 0;
     const char **names = sqlite3_malloc64(most * (sizeof *names + 1));
     kumquatsieve_segmenter_close(&of->segmenter);
@@ -32,13 +31,13 @@ int open_segmenter(word_reader *of, const char *list, uint32_t flags) {
     char *rest = strcpy((char *)(names + most), list);
     while (rest) names[count++] = strsep(&rest, ",");
     if (!*names[0]) names[0] = NULL;
-    if (!kumquatsieve_dictionary_open(&opened, names[0], names + 1, count - 1, flags, &error)) {
+    if (!kumquatsieve_dictionary_open(&opened, names[0], names + 1, count - 1, flags, &of->error)) {
         kumquatsieve_dictionary_release(of->in->dictionary);
         of->in->dictionary = opened;
-        kumquatsieve_segmenter_open(&of->segmenter, opened, &error);
+        kumquatsieve_segmenter_open(&of->segmenter, opened, &of->error);
     }
     sqlite3_free(names);
-    return report_error(of->in, &error);
+    return report_error(of->in, &of->error);
 }
 
 char *make_fingerprint(const kumquatsieve_dictionary *of) {
@@ -54,14 +53,14 @@ char *make_fingerprint(const kumquatsieve_dictionary *of) {
 }
 
 int read_word(word_reader *of) {
-    kumquatsieve_error error;
     kumquatsieve_line line;
     for (of->number++; of->number >= of->count && of->next < of->length; of->next = line.end) {
         of->number = of->count = 0;
-        kumquatsieve_segment_text(&of->segmenter, of->text, of->length, of->next, 0, &line, &error);
-        if (error.code == KUMQUATSIEVE_OK)
-            kumquatsieve_words(&of->segmenter, &of->words, &of->count, &error);
-        if (error.code != KUMQUATSIEVE_OK) return report_error(of->in, &error);
+        kumquatsieve_segment_text(&of->segmenter, of->text, of->length, of->next, 0, &line,
+                                  &of->error);
+        if (of->error.code == KUMQUATSIEVE_OK)
+            kumquatsieve_words(&of->segmenter, &of->words, &of->count, &of->error);
+        if (of->error.code != KUMQUATSIEVE_OK) return report_error(of->in, &of->error);
     }
     return SQLITE_OK;
 }
@@ -188,15 +187,15 @@ static int get_column(sqlite3_vtab_cursor *base, sqlite3_context *context, int c
     const sqlite3_int64 numbers[] = {word->start, word->end, word->cost};
     const char *text = of->reader.text + word->start;
     size_t length = word->end - word->start;
-    kumquatsieve_error error = {.code = KUMQUATSIEVE_OK};
+    of->reader.error.code = KUMQUATSIEVE_OK;
     if (column >= FIRST_ARGUMENT)
         sqlite3_result_value(context, of->arguments[column - FIRST_ARGUMENT]);
     else if (column >= START)
         sqlite3_result_int64(context, numbers[column - START]);
     else if (column == SURFACE ||
-             !kumquatsieve_feature(&of->reader.segmenter, word, &text, &length, &error))
+             !kumquatsieve_feature(&of->reader.segmenter, word, &text, &length, &of->reader.error))
         sqlite3_result_text64(context, text, length, SQLITE_TRANSIENT, SQLITE_UTF8);
-    return end_call(of, report_error(of->reader.in, &error));
+    return end_call(of, report_error(of->reader.in, &of->reader.error));
 }
 
 /* The number of a row is where the surface starts. */

@@ -22,6 +22,7 @@ typedef struct word_reader {
     const char *text;
     size_t length, next, count, number;
     const kumquatsieve_word *words;
+    kumquatsieve_error error; /* of the last call of the library */
 } word_reader;
 
 /* Keeps `kumquatsieve: ` and a text, which it frees, as the last error. Returns SQLITE_ERROR, or

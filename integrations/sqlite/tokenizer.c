@@ -135,14 +135,14 @@ static int fold(int32_t **buffer, span *text) {
 static int take_word(tokenizer *of) {
     const kumquatsieve_word *word = &of->reader.words[of->reader.number];
     kumquatsieve_segmenter *segmenter = &of->reader.segmenter;
-    kumquatsieve_error error = {.code = KUMQUATSIEVE_OK};
+    kumquatsieve_error *error = &of->reader.error;
     const char *stops = of->texts[STOP];
     span feature = {"", 0}, base = {NULL, 0};
-    if (stops) kumquatsieve_feature(segmenter, word, &feature.text, &feature.length, &error);
+    if (stops) kumquatsieve_feature(segmenter, word, &feature.text, &feature.length, error);
     if (stops && is_stopped(stops, feature.text, feature.length)) return SQLITE_OK;
-    if (of->values[BASE] != BASE_OFF && error.code == KUMQUATSIEVE_OK)
-        kumquatsieve_field_named(segmenter, word, "base_form", &base.text, &base.length, &error);
-    int code = report_error(of->reader.in, &error);
+    if (of->values[BASE] != BASE_OFF && error->code == KUMQUATSIEVE_OK)
+        kumquatsieve_field_named(segmenter, word, "base_form", &base.text, &base.length, error);
+    int code = report_error(of->reader.in, error);
     bool has_base = base.text && base.length > 0, is_only = of->values[BASE] == BASE_ONLY;
     span tokens[] = {{of->reader.text + word->start, word->end - word->start}, base};
     size_t count = has_base && !is_only && !of->is_query ? 2 : 1;

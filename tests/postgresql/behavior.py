@@ -94,11 +94,20 @@ def indexes_of_databases(server: Server, images: Images) -> Iterator[str]:
     server.sql("DROP TABLE indexed; ALTER DATABASE test RESET ALL")
 
 
+def unknown_name(images: Images) -> str:
+    """Returns the detail and the hint of the name no_such_image, which no image has."""
+    own, prefix = images.ipadic.parent, images.ipadic.parents[2] / "prefix"
+    return (
+        f"DETAIL:  no_such_image: no such image; searched {own}, {prefix}/var/lib/kumquatsieve, "
+        f"{prefix}/share/kumquatsieve; available images: ipadic, user (F1 File).\n"
+        "HINT:  Name an image that kumquatsieve-import has installed, or the path of an image.\n"
+    )
+
+
 def placeholders(server: Server, images: Images) -> Iterator[str]:
     """A setting that was made before the library was loaded is reported when it is used."""
     error = server.error(f"SET kumquatsieve.dictionary = 'no_such_image'; {QUERY}")
-    detail = f"DETAIL:  no_such_image: no such image; searched {images.ipadic.parent}, "
-    yield from expect("before the library", error, "could not open", detail, "HINT:")
+    yield from expect("before the library", error, "could not open", unknown_name(images))
     found = server.psql(
         f"CREATE ROLE reader; SET ROLE reader; SET kumquatsieve.dictionary = 'x'; {QUERY}"
     )

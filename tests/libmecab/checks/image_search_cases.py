@@ -3,24 +3,30 @@ from libmecab.checks.settings_case import Case
 
 B = {"MECABRC": "HERE/rc"}
 DATA, RELATIVE = {"XDG_DATA_HOME": "HERE/data"}, {"XDG_DATA_HOME": "data"}
-# The start of the library's message, which tests/capi compares.
-SEARCHED = "no such image; searched OWN/, MADE/,"
+SEARCHED = "no such image; searched OWN/, MADE/, SHARED/; available images:"
+HINT = "(F1 File); compile an image with kumquatsieve-import\n"
 CASES = [
     Case(
         "an image by its name", ["-d", "own"], installed=("SHARED/own.img",), image="SHARED/own.img"
     ),
-    Case("a name of no image", ["-d", "own"], error=f"own: {SEARCHED}"),
+    Case("a name of no image", ["-d", "own"], error=f"own: {SEARCHED} none {HINT}"),
+    Case(
+        "the directories that were searched",
+        ["-d", "own"],
+        installed=("MADE/b.img", "SHARED/b.img", "OWN/a.img"),
+        error=f"own: {SEARCHED} a, b {HINT}",
+    ),
     Case(
         "a user dictionary of a name that no image has",
         ["-d", "HERE/a.img", "-u", "own"],
-        error=f"own: {SEARCHED}",
+        error=f"own: {SEARCHED} none {HINT}",
     ),
     Case(
         "a pipe is no image",
         ["-d", "own"],
         installed=("SHARED/x.img",),
         pipes=("MADE/own.img", "OWN/y.img"),
-        error=f"own: {SEARCHED}",
+        error=f"own: {SEARCHED} x {HINT}",
     ),
     Case(
         "an image after a pipe of its name",

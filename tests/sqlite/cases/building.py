@@ -31,11 +31,15 @@ USER_LEXICON = "犬は走る,1,1,-9000,名詞,固有名詞,犬は走る\n"
 
 
 class Images(NamedTuple):
-    """The images of LEXICON, of USER_LEXICON, and of the sample, which has no names of fields."""
+    """The images of LEXICON, of USER_LEXICON, and of the sample, which has no names of fields.
+
+    The image directories have images with the names a, b and c.
+    """
 
     system: Path
     user: Path
     sample: Path
+    directories: Sequence[Path]
 
 
 def missing_packages() -> list[str]:
@@ -131,11 +135,24 @@ def compiled(lexicon: str, name: str, folder: Path) -> Path:
     return image
 
 
+def image_directories(folder: Path) -> list[Path]:
+    """Creates the image directories that the extension searches, with an image in each."""
+    os.environ["XDG_DATA_HOME"] = str(folder / "data")
+    parents = (folder / "data", folder / "prefix" / "var" / "lib", folder / "prefix" / "share")
+    directories = [parent / "kumquatsieve" for parent in parents]
+    for directory, name in zip(directories, "cab"):
+        directory.mkdir(parents=True, exist_ok=True)
+        (directory / f"{name}.img").touch()
+    return directories
+
+
 def small_images(folder: Path) -> Images:
+    """Compiles the images, and creates the image directories."""
     system = compiled(LEXICON, "small", folder)
     checksum = system.read_bytes()[-32:].hex()
     system.with_suffix(".fields").write_text(f"; image-sha256 {checksum}\n{NAMES}")
     lexicon, user = folder / "user.csv", folder / "user.img"
     lexicon.write_text(USER_LEXICON)
     run([program("dictc"), "user", "--dic", system, "--out", user, lexicon])
-    return Images(system, user, compiled((SAMPLE / "lexicon.csv").read_text(), "sample", folder))
+    sample = compiled((SAMPLE / "lexicon.csv").read_text(), "sample", folder)
+    return Images(system, user, sample, image_directories(folder))

@@ -1,6 +1,5 @@
 """Options and their errors, the functions, and what happens with another dictionary."""
 import os
-import re
 import shutil
 from pathlib import Path
 
@@ -12,7 +11,8 @@ UNKNOWN = (
     "kumquatsieve: unknown option '{}'; the options are dict, users, stop, base, fold, digest "
 )
 UNKNOWN += "and expect"
-NO_IMAGE = "kumquatsieve: nowhere: no such image; searched ... (F1 File). "
+NO_IMAGE = "kumquatsieve: nowhere: no such image; searched DIRECTORIES; "
+NO_IMAGE += "available images: a, b, c (F1 File). "
 NO_IMAGE += "Install the image with kumquatsieve-import, or correct the path."
 NO_NAMES = "kumquatsieve: option base needs the names of the fields of 'SAMPLE', which "
 NO_NAMES += "kumquatsieve-import writes"
@@ -21,7 +21,8 @@ NOT_SYSTEM += "Give a system dictionary first, and the user dictionary after it.
 NOT_USER = "kumquatsieve: SAMPLE: not a user dictionary (O2 NotUser). "
 NOT_USER += "Compile the lexicon with dictc user."
 FTS5_ERROR = "error in tokenizer constructor"
-# Options, and the text of kumquatsieve_error(). IMAGE, USER and SAMPLE are images.
+# Options, and the text of kumquatsieve_error(). IMAGE, USER and SAMPLE are images, and DIRECTORIES
+# are the image directories.
 ERRORS = [
     ("dict nowhere", NO_IMAGE),
     ("dict IMAGE weight 2", UNKNOWN.format("weight")),
@@ -61,15 +62,10 @@ TOKENS = [
 
 
 def named(text: str, images: Images) -> str:
-    """Returns a text with the paths of the images."""
+    """Returns a text with the paths of the images, and of the image directories."""
     for name, path in (("IMAGE", images.system), ("USER", images.user), ("SAMPLE", images.sample)):
         text = text.replace(name, str(path))
-    return text
-
-
-def shortened(error: str) -> str:
-    """Returns an error without the directories and images, which tests/capi compares."""
-    return re.sub(r"searched /.* \(F1", "searched ... (F1", error)
+    return text.replace("DIRECTORIES", ", ".join(map(str, images.directories)))
 
 
 def check_errors(extension: Path, images: Images) -> None:
@@ -81,7 +77,7 @@ def check_errors(extension: Path, images: Images) -> None:
             words = " ".join(f"'{word}'" for word in quoted.split())
             sql = f'CREATE VIRTUAL TABLE t USING fts5(a, tokenize="kumquatsieve {words}")'
             expect(options, FTS5_ERROR, database.fails(sql))
-            expect(options, named(wanted, images), shortened(database.last_error()))
+            expect(options, named(wanted, images), database.last_error())
         expect("tables", 0, database.value("SELECT count(*) FROM sqlite_schema"))
         expect("another connection", None, other.value("SELECT kumquatsieve_error()"))
     report(f"{len(ERRORS)} errors of options")
@@ -155,7 +151,8 @@ def check_functions(extension: Path, images: Images) -> None:
             "kumquatsieve_words takes dictionaries and a text",
             database.fails("SELECT * FROM kumquatsieve_words('x')"),
         )
-        expect("words of no image", NO_IMAGE, shortened(database.fails(sql, "nowhere", "犬")))
+        error = named(NO_IMAGE, images)
+        expect("words of no image", error, database.fails(sql, "nowhere", "犬"))
         expect(
             "a table of words",
             "no such module: kumquatsieve_words",
@@ -199,8 +196,8 @@ def check_fingerprints(database: Database, images: Images) -> None:
     sql = "SELECT kumquatsieve_dictionary(?1)"
     expect("a fingerprint", wanted, database.value(sql, f"{images.system},{images.user}"))
     expect("one image", wanted.split(b",")[0], database.value(sql, str(images.system)))
-    expect("no image", NO_IMAGE, shortened(database.fails(sql, "nowhere")))
-    expect("its text", NO_IMAGE, shortened(database.last_error()))
+    expect("no image", named(NO_IMAGE, images), database.fails(sql, "nowhere"))
+    expect("its text", named(NO_IMAGE, images), database.last_error())
 
 
 def check_other_dictionary(extension: Path, images: Images, folder: Path) -> None:
@@ -259,10 +256,10 @@ def check_unloading(extension: Path, images: Images) -> None:
         with Database(extension) as database, Database(extension) as other:
             create_index(database, f"dict '{images.system}'")
             error = database.fails("SELECT kumquatsieve_dictionary('nowhere')")
-            expect("no image", NO_IMAGE, shortened(error))
+            expect("no image", named(NO_IMAGE, images), error)
             database.load(extension)
             database.run("SELECT load_extension(?1)", str(extension))
-            expect("an error before", NO_IMAGE, shortened(database.last_error()))
+            expect("an error before", named(NO_IMAGE, images), database.last_error())
             database.run("INSERT INTO t VALUES('犬は走った')")
             expect("a query", 1, database.value("SELECT count(*) FROM t('犬')"))
             other.rows("SELECT * FROM kumquatsieve_words(?1, '犬')", str(images.system))
