@@ -169,14 +169,14 @@ public:
     mecab_model_t *at;
 };
 
-void give_back(mecab_t *at) { mecab_destroy(at); }
-void give_back(mecab_lattice_t *at) { mecab_lattice_destroy(at); }
-void give_back(mecab_model_t *at) { mecab_model_destroy(at); }
+void destroy(mecab_t *at) { mecab_destroy(at); }
+void destroy(mecab_lattice_t *at) { mecab_lattice_destroy(at); }
+void destroy(mecab_model_t *at) { mecab_model_destroy(at); }
 
 // Returns an object over what a C call returned, or nullptr if that is nullptr or memory runs out.
 template <typename Over, typename At> Over *over(At *at) {
     Over *made = at != nullptr ? new (std::nothrow) Over(at) : nullptr;
-    if (made == nullptr) give_back(at);
+    if (made == nullptr) destroy(at);
     return made;
 }
 

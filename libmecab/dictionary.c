@@ -51,7 +51,7 @@ static bool read_grouping(tables *to, const char *text, fault *error) {
 /* Sets the tokens. Without settings beside the image there are no part-of-speech ids. */
 static bool take_tokens(tables *to, const char *image, const settings *from, fault *error) {
     bool has_settings = is_set(from, HAS_DICRC);
-    char *rules = has_settings ? beside(image, ".pos-id.def") : NULL;
+    char *rules = has_settings ? path_next_to(image, ".pos-id.def") : NULL;
     if (has_settings && !rules) return fail_memory(error);
     to->tokens = tokens_over(to->images, rules, error);
     free(rules);
@@ -97,10 +97,10 @@ static tables *make_tables(char *path, const settings *from, fault *error) {
 
 /* Reads the settings beside an image, and opens the image. If the image was replaced in between,
    the settings may belong to the other one: sets *is_other then, and returns NULL. */
-static tables *load_beside(char *path, settings *from, bool *is_other, fault *error) {
+static tables *load_with_settings(char *path, settings *from, bool *is_other, fault *error) {
     heading of;
     if (!read_heading(&of, path, error)) return NULL;
-    if (!read_beside(from, path, of.checksum, error)) return NULL;
+    if (!read_image_settings(from, path, of.checksum, error)) return NULL;
     tables *made = make_tables(path, from, error);
     *is_other = made && !is_first_file(made->images, &of.which);
     if (!*is_other) return made;
@@ -118,7 +118,7 @@ tables *load_tables(settings *from, fault *error) {
     for (int i = 0; is_other && i < TRIES; i++) {
         forget_settings(from, count);
         is_other = false;
-        made = load_beside(path, from, &is_other, error);
+        made = load_with_settings(path, from, &is_other, error);
     }
     free(path);
     return made;

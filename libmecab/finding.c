@@ -21,6 +21,7 @@ static const char AWAITED[] = IMAGES "/kumquatsieve.img";
 static const char VARIABLE[] = "KUMQUATSIEVE_DICTIONARY";
 static const char SYSTEM_SETTINGS[] = "/etc/mecabrc";
 static const char RC_PATH[] = "$(rcpath)";
+static const char HINT[] = "; compile an image with kumquatsieve-import";
 
 /* The origin of the settings: the option, the user or the system. */
 typedef enum source { NO_SOURCE, GIVEN_SOURCE, USERS_SOURCE, SYSTEM_SOURCE } source;
@@ -153,7 +154,7 @@ static char *path_of(const char *name, fault *error) {
     }
     if (code == KUMQUATSIEVE_OK) return path;
     free(path);
-    return fail(error, "%s", why.message), NULL;
+    return fail(error, "%s%s", why.message, why.number == ENOENT ? HINT : ""), NULL;
 }
 
 /* Returns the path of the image that `name` means, which the caller frees, or NULL after an error:
@@ -174,12 +175,12 @@ static char *with_rc_path(const char *value, const char *file) {
     if (!found) return strdup(value);
     const char *folder = slash ? file : ".";
     size_t folder_length = slash ? (size_t)(slash - file) : 1, before = (size_t)(found - value);
-    const char *behind = found + strlen(RC_PATH);
-    size_t length = before + folder_length + strlen(behind) + 1;
+    const char *suffix = found + strlen(RC_PATH);
+    size_t length = before + folder_length + strlen(suffix) + 1;
     char *path = malloc(length);
     if (path)
         snprintf(path, length, "%.*s%.*s%s", (int)before, value, (int)folder_length, folder,
-                 behind);
+                 suffix);
     return path;
 }
 
@@ -224,7 +225,7 @@ static char *chosen_name(const char *option, const char *setting, source from) {
 
 /* Returns the path of the file beside NAME.img that is NAME with this ending, which the caller
    frees, or NULL if memory runs out. If the image is a link, the file is beside its target. */
-char *beside(const char *image, const char *ending) {
+char *path_next_to(const char *image, const char *ending) {
     char whole[PATH_MAX];
     const char *path = realpath(image, whole) ? whole : image;
     size_t length = strlen(path), img = strlen(".img");
@@ -243,8 +244,9 @@ static bool is_missing(const char *path) {
 
 /* Reads the settings beside an image with this checksum. Settings for another image count as
    missing. */
-bool read_beside(settings *to, const char *image, const unsigned char *checksum, fault *error) {
-    char *path = beside(image, ".dicrc");
+bool read_image_settings(settings *to, const char *image, const unsigned char *checksum,
+                         fault *error) {
+    char *path = path_next_to(image, ".dicrc");
     bool is_other = false;
     if (!path) return fail_memory(error);
     bool is_there = !is_missing(path);
@@ -271,7 +273,7 @@ static char *find_named(settings *to, const char *option, fault *error) {
     return image;
 }
 
-/* Also adds the settings in MeCab's files to `to`. */
+/* Returns the path of the system image, and adds the settings in MeCab's files to `to`. */
 char *find_image(settings *to, fault *error) {
     const char *given = setting_of(to, "dicdir");
     char *option = given && *given ? strdup(given) : NULL;

@@ -26,7 +26,7 @@ struct images {
 
 /* All open images, and the ones of them that nobody holds, or NULL. */
 static images *loaded;
-static images *kept;
+static images *cached;
 
 /* Returns the open images of these files with one more holder, or NULL. The caller holds
  * lock_shared. */
@@ -36,7 +36,7 @@ static images *find(const identity *files, size_t count) {
         for (size_t i = 0; same && i < count; i++) same = are_same(&one->files[i].which, &files[i]);
         if (!same) continue;
         one->holders++;
-        if (one == kept) kept = NULL;
+        if (one == cached) cached = NULL;
         return one;
     }
     return NULL;
@@ -94,7 +94,7 @@ static bool add_info(mecab_dictionary_info_t **last, const char *path, const hea
 }
 
 /* Sets the starts and the infos by the headers. Returns false if memory runs out. */
-static bool keep_headers(images *to, char *const *paths) {
+static bool apply_headers(images *to, char *const *paths) {
     mecab_dictionary_info_t **last = &to->infos;
     for (size_t i = 0; i < to->count; i++) {
         const heading *of = &to->files[i];
@@ -137,7 +137,7 @@ static bool open_all(images *to, char *const *paths, bool *is_changed, fault *er
     if (code == KUMQUATSIEVE_MEMORY) return fail_memory(error);
     if (code != KUMQUATSIEVE_OK)
         return fail_image(error, paths[why.image], &to->files[why.image], code, why.number);
-    return keep_headers(to, paths) || fail_memory(error);
+    return apply_headers(to, paths) || fail_memory(error);
 }
 
 /* Starts again if a file was changed meanwhile, at most TRIES times. */
@@ -180,23 +180,23 @@ static images *load_all(char *const *paths, size_t count, fault *error) {
     return NULL;
 }
 
-/* Keeps the images `by`, or none if it is NULL. Removes those that were kept before from the list,
-   and returns them for the caller to free. The caller holds lock_shared. */
-static images *exchange_kept(images *by) {
-    images *before = kept;
+/* Caches the images `by`, or none if it is NULL. Removes those that were cached before from the
+   list, and returns them for the caller to free. The caller holds lock_shared. */
+static images *replace_cached(images *by) {
+    images *before = cached;
     for (images **at = &loaded; before && *at; at = &(*at)->next) {
         if (*at != before) continue;
         *at = before->next;
         break;
     }
-    kept = by;
+    cached = by;
     return before;
 }
 
-/* Frees the kept images. Runs also at the end of the process, and when the library is closed. */
-__attribute__((destructor)) static void drop_kept(void) {
+/* Frees the cached images. Runs also at the end of the process, and when the library is closed. */
+__attribute__((destructor)) static void free_cached(void) {
     lock_shared();
-    images *before = exchange_kept(NULL);
+    images *before = replace_cached(NULL);
     unlock_shared();
     if (before) free_images(before);
 }
@@ -205,7 +205,7 @@ __attribute__((destructor)) static void drop_kept(void) {
 images *open_images(char *const *paths, size_t count, fault *error) {
     lock_loads();
     images *opened = find_at(paths, count);
-    if (!opened) drop_kept();
+    if (!opened) free_cached();
     if (!opened && (opened = load_all(paths, count, error))) {
         lock_shared();
         opened->next = loaded;
@@ -219,7 +219,7 @@ images *open_images(char *const *paths, size_t count, fault *error) {
 void release_images(images *of) {
     if (!of) return;
     lock_shared();
-    images *before = --of->holders == 0 ? exchange_kept(of) : NULL;
+    images *before = --of->holders == 0 ? replace_cached(of) : NULL;
     unlock_shared();
     if (before) free_images(before);
 }

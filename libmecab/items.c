@@ -11,12 +11,12 @@ typedef struct letter {
     kind kind;
 } letter;
 
-static const letter BEHIND_PERCENT[] = {
+static const letter AFTER_PERCENT[] = {
     {'S', SENTENCE}, {'L', SENTENCE_SIZE}, {'m', SURFACE}, {'M', SURFACE_WITH_BLANKS},
     {'h', POSID},    {'c', WORD_COST},     {'H', FEATURE}, {'t', CATEGORY},
     {'s', STATUS},   {'P', PROBABILITY},   {'\0', TEXT},
 };
-static const letter BEHIND_P[] = {
+static const letter AFTER_P[] = {
     {'i', ID},
     {'S', BLANKS},
     {'s', START},
@@ -33,7 +33,7 @@ static const letter BEHIND_P[] = {
     {'L', LENGTH_WITH_BLANKS},
     {'\0', TEXT},
 };
-static const letter BEHIND_H[] = {{'l', LEFT_ID}, {'r', RIGHT_ID}, {'\0', TEXT}};
+static const letter AFTER_H[] = {{'l', LEFT_ID}, {'r', RIGHT_ID}, {'\0', TEXT}};
 static const char ESCAPES[][2] = {
     {'0', '\0'}, {'a', '\a'}, {'b', '\b'}, {'t', '\t'}, {'n', '\n'},
     {'v', '\v'}, {'f', '\f'}, {'r', '\r'}, {'s', ' '},  {'\\', '\\'},
@@ -97,18 +97,18 @@ static uint32_t add_separated(items *to, const char **at, fault *error) {
     return add_fields(to, at, separator, error);
 }
 
-static uint32_t add_behind_p(items *to, const char **at, fault *error) {
-    if (**at != 'h') return add_letter(to, BEHIND_P, at, error);
+static uint32_t add_after_p(items *to, const char **at, fault *error) {
+    if (**at != 'h') return add_letter(to, AFTER_P, at, error);
     ++*at;
-    return add_letter(to, BEHIND_H, at, error);
+    return add_letter(to, AFTER_H, at, error);
 }
 
 static uint32_t add_item(items *to, const char **at, fault *error) {
     char letter = **at;
     if (letter != 'f' && letter != 'F' && letter != 'p')
-        return add_letter(to, BEHIND_PERCENT, at, error);
+        return add_letter(to, AFTER_PERCENT, at, error);
     ++*at;
-    if (letter == 'p') return add_behind_p(to, at, error);
+    if (letter == 'p') return add_after_p(to, at, error);
     return letter == 'f' ? add_fields(to, at, '\t', error) : add_separated(to, at, error);
 }
 

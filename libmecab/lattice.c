@@ -17,7 +17,7 @@ mecab_lattice_t *mecab_lattice_new(void) {
     return lattice;
 }
 
-/* It is the format of the lattice's model, whichever tagger parses it. (MeCab) */
+/* Returns the format of the lattice's model, whichever tagger parses the lattice. (MeCab) */
 const format *format_of(const mecab_lattice_t *lattice) {
     return lattice->model ? &lattice->model->texts : default_format();
 }
@@ -71,7 +71,7 @@ void mecab_lattice_set_sentence(mecab_lattice_t *lattice, const char *sentence) 
 
 const char *mecab_lattice_get_sentence(mecab_lattice_t *lattice) { return lattice->sentence; }
 size_t mecab_lattice_get_size(mecab_lattice_t *lattice) { return lattice->size; }
-/* It is available once a sentence is set, also before that is parsed. (MeCab) */
+/* A lattice is available once a sentence is set, even before the sentence is parsed. (MeCab) */
 int mecab_lattice_is_available(mecab_lattice_t *lattice) { return lattice->sentence != NULL; }
 
 mecab_node_t *mecab_lattice_get_bos_node(mecab_lattice_t *lattice) {

@@ -86,7 +86,7 @@ struct mecab_t {
 };
 
 /* A sentence and, after a parse, its best path: the nodes from BOS to EOS. When they are first
-   asked for, also its text in the format of its model, or in the default format, and the nodes of
+   requested, also its text in the format of its model, or in the default format, and the nodes of
    the whole lattice, of which `others` are not on the path. The segmenter is over the tables of the
    tagger that parsed it last, and `chosen` is the number of the segmenter's format, or 0.
 
@@ -119,7 +119,7 @@ struct mecab_lattice_t {
     mecab_node_t **ends;
     size_t places_room;
     kumquatsieve_line line;
-    size_t bad_bytes;
+    size_t invalid_bytes;
     kumquatsieve_word *entries;
     mecab_node_t *looked_up;
     size_t entries_room;
@@ -151,11 +151,12 @@ bool read_options_of(settings *to, const char *line, fault *error);
 
 /* finding.c. Returns the path of the system image, which the caller frees. */
 char *find_image(settings *to, fault *error);
-bool read_beside(settings *to, const char *image, const unsigned char *checksum, fault *error);
+bool read_image_settings(settings *to, const char *image, const unsigned char *checksum,
+                         fault *error);
 
 /* Returns the path of the image of a user dictionary, which the caller frees. */
 char *find_user_image(const char *name, fault *error);
-char *beside(const char *image, const char *ending);
+char *path_next_to(const char *image, const char *ending);
 
 /* lock.c. The lock that is held while images are opened. Like the next one, it is free in a child
    that was forked while another thread held it. */
@@ -190,8 +191,8 @@ kumquatsieve_dictionary *dictionary_of(const images *of);
 tokens *tokens_in(tokens **list, const size_t *starts, size_t count, const char *rules,
                   const unsigned char *checksum, fault *error);
 /* Makes the node of the token of a word, unless there is one. */
-bool keep_token(const tokens *of, kumquatsieve_segmenter *segmenter, const kumquatsieve_word *word,
-                fault *error);
+bool add_token(const tokens *of, kumquatsieve_segmenter *segmenter, const kumquatsieve_word *word,
+               fault *error);
 void free_tokens(tokens *list);
 
 /* posids.c. Reads rules. If there is no file, or it is for another image than the one with the
@@ -230,7 +231,7 @@ mecab_model_t *hold_model(mecab_model_t *model);
 mecab_t *open_tagger(mecab_model_t *model, fault *error);
 /* Parses a sentence with the lattice of the tagger. `request` is added to the request type of the
    tagger, and `nodes` is whether nodes are needed. */
-bool parse_own(mecab_t *tagger, const char *text, size_t length, int request, bool nodes);
+bool parse_sentence(mecab_t *tagger, const char *text, size_t length, int request, bool nodes);
 
 /* lattice.c. Returns the format of a lattice. */
 const format *format_of(const mecab_lattice_t *lattice);
@@ -282,7 +283,7 @@ bool find_odd(mecab_lattice_t *lattice, fault *error);
 
 /* parsing.c. Makes the segmenter of a lattice, if it has none yet, or the dictionaries of the model
    were swapped since. */
-bool take_tables(mecab_model_t *model, mecab_lattice_t *lattice, fault *error);
+bool use_tables(mecab_model_t *model, mecab_lattice_t *lattice, fault *error);
 
 /* Forgets the result of the last parse. */
 void forget_path(mecab_lattice_t *lattice);

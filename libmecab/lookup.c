@@ -13,7 +13,7 @@ static bool has_room(mecab_lattice_t *lattice, size_t wanted, fault *error) {
     return true;
 }
 
-/* Sets *count to the number of the words. Asks again if there was too little room for them. */
+/* Sets *count to the number of the words. Repeats the call if they had too little room. */
 static bool find_entries(mecab_lattice_t *lattice, const char *text, size_t length, size_t *count,
                          fault *error) {
     kumquatsieve_dictionary *dictionary = dictionary_of(lattice->tables->images);
@@ -59,6 +59,6 @@ mecab_node_t *mecab_model_lookup(mecab_model_t *model, const char *begin, const 
     size_t length = (size_t)(end - begin);
     if (!lattice->tables || lattice->tables->number != model->number) forget_path(lattice);
     bool is_found =
-        take_tables(model, lattice, error) && find_entries(lattice, begin, length, &count, error);
+        use_tables(model, lattice, error) && find_entries(lattice, begin, length, &count, error);
     return is_found ? link_entries(lattice, begin, count, error) : NULL;
 }

@@ -6,7 +6,7 @@
 static const double THETA = 0.75;
 
 /* Rejects settings that need more than the best path, before there is a sentence. */
-static bool are_had(const settings *from, fault *error) {
+static bool can_open(const settings *from, fault *error) {
     if (is_set(from, "partial")) return fail_left_out(error, "partial parsing");
     return number_of(from, "nbest", 1) <= 1 || fail_left_out(error, "N-best");
 }
@@ -47,7 +47,7 @@ mecab_model_t *open_model(settings *from, fault *error) {
         return NULL;
     }
     model->holders = 1;
-    if ((model->tables = load_tables(from, error)) && are_had(from, error) &&
+    if ((model->tables = load_tables(from, error)) && can_open(from, error) &&
         take_texts(model, from, error)) {
         model->request = request_of(from);
         model->theta = theta_of(from);

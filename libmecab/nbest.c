@@ -52,7 +52,7 @@ const char *mecab_lattice_nbest_tostr2(mecab_lattice_t *lattice, size_t n, char 
 }
 
 int mecab_nbest_init2(mecab_t *tagger, const char *text, size_t length) {
-    return parse_own(tagger, text, length, MECAB_NBEST, false);
+    return parse_sentence(tagger, text, length, MECAB_NBEST, false);
 }
 
 int mecab_nbest_init(mecab_t *tagger, const char *text) {

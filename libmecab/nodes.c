@@ -110,7 +110,7 @@ static bool set_all(mecab_lattice_t *lattice, mecab_node_t *nodes, const kumquat
         done += set_nodes(of, nodes + done, lattice->count + done, words + done, count - done,
                           lattice->sentence);
         if (done == count) break;
-        if (!keep_token(of, &lattice->segmenter, &words[done], error)) return false;
+        if (!add_token(of, &lattice->segmenter, &words[done], error)) return false;
     }
     if (lattice->tables->unk_feature) exchange_features(lattice->tables->unk_feature, nodes, count);
     return true;
@@ -204,13 +204,13 @@ bool make_other(mecab_lattice_t *lattice, mecab_node_t *node, const kumquatsieve
                 const char *text, fault *error) {
     const tokens *of = lattice->tables->tokens;
     while (!set_node(of, node, word, text)) {
-        if (!keep_token(of, &lattice->segmenter, word, error)) return false;
+        if (!add_token(of, &lattice->segmenter, word, error)) return false;
     }
     node->isbest = 0;
     return true;
 }
 
-/* They are in the order of the words. */
+/* Makes the nodes in the order of the words. */
 bool make_others(mecab_lattice_t *lattice, fault *error) {
     if (!has_others_room(lattice, error)) return false;
     mecab_node_t *node = lattice->others;

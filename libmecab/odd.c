@@ -33,14 +33,14 @@ static size_t short_end(const char *text, size_t at, size_t size) {
 
 /* The words have the places of the sentence as it was given. */
 static bool segment_parts(mecab_lattice_t *lattice, part *of, take *from, fault *error) {
-    lattice->bad_bytes = 0;
+    lattice->invalid_bytes = 0;
     while (of->at < lattice->size) {
         size_t end = lattice->has_long_word ? short_end(lattice->sentence, of->at, lattice->size)
                                             : lattice->size;
         uint32_t code = kumquatsieve_segment_text(&lattice->segmenter, lattice->sentence, end,
                                                   of->at, KUMQUATSIEVE_WHOLE, &of->line, NULL);
         if (code != KUMQUATSIEVE_OK) return fail_code(error, "sentence", code);
-        lattice->bad_bytes += of->line.replaced;
+        lattice->invalid_bytes += of->line.replaced;
         if (!from(lattice, of, error)) return false;
     }
     return true;
@@ -53,8 +53,9 @@ bool is_odd(uint32_t code) {
 bool add_odd(mecab_lattice_t *lattice, long *cost, fault *error) {
     part one = {.is_whole = false};
     bool is_segmented = segment_parts(lattice, &one, add_nodes, error);
-    if (is_segmented && lattice->bad_bytes > 0)
-        fail(error, "%zu bytes that are not UTF-8 were segmented as U+FFFD", lattice->bad_bytes);
+    if (is_segmented && lattice->invalid_bytes > 0)
+        fail(error, "%zu bytes that are not UTF-8 were segmented as U+FFFD",
+             lattice->invalid_bytes);
     *cost = lattice->count > 1 ? one.cost : (long)one.line.total;
     return is_segmented;
 }

@@ -2,7 +2,7 @@
 #include "layer.h"
 #include <string.h>
 
-bool take_tables(mecab_model_t *model, mecab_lattice_t *lattice, fault *error) {
+bool use_tables(mecab_model_t *model, mecab_lattice_t *lattice, fault *error) {
     if (lattice->tables && lattice->tables->number == model->number) return true;
     kumquatsieve_segmenter segmenter = KUMQUATSIEVE_EMPTY;
     tables *taken = hold_tables(model);
@@ -19,7 +19,7 @@ bool take_tables(mecab_model_t *model, mecab_lattice_t *lattice, fault *error) {
 }
 
 /* Rejects requests that need more than the best path. A probability matters for nodes only. */
-static bool is_had(const mecab_lattice_t *lattice, bool nodes, fault *error) {
+static bool can_parse(const mecab_lattice_t *lattice, bool nodes, fault *error) {
     int request = lattice->request;
     if (request & MECAB_PARTIAL) return fail_left_out(error, "partial parsing");
     if (nodes && request & MECAB_MARGINAL_PROB)
@@ -29,7 +29,7 @@ static bool is_had(const mecab_lattice_t *lattice, bool nodes, fault *error) {
 }
 
 void forget_path(mecab_lattice_t *lattice) {
-    lattice->count = lattice->bad_bytes = 0;
+    lattice->count = lattice->invalid_bytes = 0;
     lattice->is_segmented = lattice->is_odd = lattice->has_long_word = lattice->is_printed = false;
     lattice->is_placed = lattice->is_chained = lattice->is_best_returned = false;
 }
@@ -37,7 +37,7 @@ void forget_path(mecab_lattice_t *lattice) {
 bool parse(mecab_model_t *model, mecab_lattice_t *lattice, bool nodes, fault *error) {
     forget_path(lattice);
     error->text[0] = '\0';
-    if (!is_had(lattice, nodes, error) || !take_tables(model, lattice, error)) return false;
+    if (!can_parse(lattice, nodes, error) || !use_tables(model, lattice, error)) return false;
     uint32_t code = kumquatsieve_segment(&lattice->segmenter, lattice->sentence, lattice->size,
                                          KUMQUATSIEVE_WHOLE, &lattice->line, NULL);
     lattice->is_odd = code != KUMQUATSIEVE_OK && is_odd(code);
@@ -73,7 +73,7 @@ static bool print_text(mecab_lattice_t *lattice, fault *error) {
            print_path(texts, lattice, &lattice->printed, error);
 }
 
-/* The text is printed when it is first asked for. */
+/* The text is printed when it is first requested. */
 const char *text_of(mecab_lattice_t *lattice, fault *error) {
     if (!lattice->is_segmented) {
         fail(error, "no sentence was parsed");

@@ -73,7 +73,7 @@ static bool place_nodes(mecab_lattice_t *lattice, fault *error) {
     return true;
 }
 
-/* Makes the arrays when they are first asked for. Before a parse no place has a node. */
+/* Allocates the arrays when they are first requested. Before a parse no place has a node. */
 static bool has_places(mecab_lattice_t *lattice, fault *error) {
     if (lattice->is_placed) return true;
     if (lattice->is_segmented)

@@ -28,12 +28,12 @@ typedef struct tally {
     size_t lines;
 } tally;
 
-static void count_bad(tally *bad, const mecab_t *tagger) {
-    bad->bytes += tagger->lattice->bad_bytes;
-    bad->lines += tagger->lattice->bad_bytes > 0;
+static void count_replaced(tally *replaced, const mecab_t *tagger) {
+    replaced->bytes += tagger->lattice->invalid_bytes;
+    replaced->lines += tagger->lattice->invalid_bytes > 0;
 }
 
-static int segment_lines(mecab_t *tagger, int from, FILE *to, tally *bad) {
+static int segment_lines(mecab_t *tagger, int from, FILE *to, tally *replaced) {
     lines all = {.from = from};
     const char *line = NULL;
     size_t length = 0;
@@ -42,7 +42,7 @@ static int segment_lines(mecab_t *tagger, int from, FILE *to, tally *bad) {
     while ((is_good = next_line(&all, to, &line, &length, error)) && line) {
         is_good = mecab_sparse_tostr2(tagger, line, length) && write_text(tagger, to, error);
         if (!is_good) break;
-        count_bad(bad, tagger);
+        count_replaced(replaced, tagger);
     }
     if (!is_good)
         fprintf(stderr, "mecab: line %zu: %s\n", all.number + (line == NULL), error->text);
@@ -50,25 +50,25 @@ static int segment_lines(mecab_t *tagger, int from, FILE *to, tally *bad) {
     return is_good ? 0 : 1;
 }
 
-static int segment_file(mecab_t *tagger, const char *path, FILE *to, tally *bad) {
-    if (strcmp(path, "-") == 0) return segment_lines(tagger, STDIN_FILENO, to, bad);
+static int segment_file(mecab_t *tagger, const char *path, FILE *to, tally *replaced) {
+    if (strcmp(path, "-") == 0) return segment_lines(tagger, STDIN_FILENO, to, replaced);
     int from = open(path, O_RDONLY | O_CLOEXEC);
     if (from < 0) return report_file(path);
-    int status = segment_lines(tagger, from, to, bad);
+    int status = segment_lines(tagger, from, to, replaced);
     close(from);
     return status;
 }
 
 static int segment_files(mecab_t *tagger, int count, char **paths, FILE *to) {
     static const char *const INPUT[] = {"-"};
-    tally bad = {0, 0};
+    tally replaced = {0, 0};
     int status = 0;
     for (int i = 0; status == 0 && i < (count > 0 ? count : 1); i++)
-        status = segment_file(tagger, count > 0 ? paths[i] : INPUT[0], to, &bad);
-    if (bad.bytes > 0)
+        status = segment_file(tagger, count > 0 ? paths[i] : INPUT[0], to, &replaced);
+    if (replaced.bytes > 0)
         fprintf(stderr,
                 "mecab: %zu bytes in %zu lines are not UTF-8, and were segmented as U+FFFD\n",
-                bad.bytes, bad.lines);
+                replaced.bytes, replaced.lines);
     return status;
 }
 

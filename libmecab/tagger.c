@@ -67,7 +67,7 @@ int mecab_parse_lattice(mecab_t *tagger, mecab_lattice_t *lattice) {
 }
 
 /* The request type is set before the sentence, because it decides whether that is copied. */
-bool parse_own(mecab_t *tagger, const char *text, size_t length, int request, bool nodes) {
+bool parse_sentence(mecab_t *tagger, const char *text, size_t length, int request, bool nodes) {
     mecab_lattice_t *lattice = tagger->lattice;
     lattice->request = tagger->request | request;
     mecab_lattice_set_sentence2(lattice, text, length);
@@ -76,8 +76,8 @@ bool parse_own(mecab_t *tagger, const char *text, size_t length, int request, bo
 }
 
 const char *mecab_sparse_tostr2(mecab_t *tagger, const char *text, size_t length) {
-    return parse_own(tagger, text, length, 0, false) ? text_of(tagger->lattice, &tagger->error)
-                                                     : NULL;
+    return parse_sentence(tagger, text, length, 0, false) ? text_of(tagger->lattice, &tagger->error)
+                                                          : NULL;
 }
 
 const char *mecab_sparse_tostr(mecab_t *tagger, const char *text) {
@@ -97,8 +97,9 @@ char *mecab_sparse_tostr3(mecab_t *tagger, const char *text, size_t length, char
 }
 
 const mecab_node_t *mecab_sparse_tonode2(mecab_t *tagger, const char *text, size_t length) {
-    return parse_own(tagger, text, length, 0, true) ? mecab_lattice_get_bos_node(tagger->lattice)
-                                                    : NULL;
+    return parse_sentence(tagger, text, length, 0, true)
+               ? mecab_lattice_get_bos_node(tagger->lattice)
+               : NULL;
 }
 
 const mecab_node_t *mecab_sparse_tonode(mecab_t *tagger, const char *text) {
@@ -106,7 +107,7 @@ const mecab_node_t *mecab_sparse_tonode(mecab_t *tagger, const char *text) {
 }
 
 /* Adds or removes a request type. An unsupported one is rejected when a sentence is parsed. */
-static void ask(mecab_t *tagger, int type, bool wanted) {
+static void set_request(mecab_t *tagger, int type, bool wanted) {
     if (wanted)
         tagger->request |= type;
     else
@@ -114,12 +115,14 @@ static void ask(mecab_t *tagger, int type, bool wanted) {
 }
 
 int mecab_get_partial(mecab_t *tagger) { return (tagger->request & MECAB_PARTIAL) != 0; }
-void mecab_set_partial(mecab_t *tagger, int partial) { ask(tagger, MECAB_PARTIAL, partial); }
+void mecab_set_partial(mecab_t *tagger, int partial) {
+    set_request(tagger, MECAB_PARTIAL, partial);
+}
 float mecab_get_theta(mecab_t *tagger) { return (float)tagger->theta; }
 void mecab_set_theta(mecab_t *tagger, float theta) { tagger->theta = theta; }
 int mecab_get_all_morphs(mecab_t *tagger) { return (tagger->request & MECAB_ALL_MORPHS) != 0; }
 void mecab_set_all_morphs(mecab_t *tagger, int all_morphs) {
-    ask(tagger, MECAB_ALL_MORPHS, all_morphs);
+    set_request(tagger, MECAB_ALL_MORPHS, all_morphs);
 }
 int request_of_tagger(const mecab_t *tagger) { return tagger->request; }
 void set_request_of_tagger(mecab_t *tagger, int request) { tagger->request = request; }

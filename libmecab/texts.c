@@ -50,14 +50,14 @@ static bool is_default(const char *const texts[]) {
 /* Parses a format. The library prints it, if it has all items, and print_path does otherwise. */
 static bool read_own(format *to, const char *const texts[], kumquatsieve_segmenter *segmenter,
                      fault *error) {
-    fault refused;
+    fault rejection;
     for (int i = 0; i < PART_COUNT; i++) {
         to->texts[i] = to->own[i] = strdup(texts[i]);
         if (!to->own[i]) return fail_memory(error);
         if (!read_items(&to->items[i], texts[i], PARTS[i], error)) return false;
     }
     to->style = OWN_STYLE;
-    to->is_proved = accepts_texts(segmenter, to, &refused);
+    to->is_proved = accepts_texts(segmenter, to, &rejection);
     return true;
 }
 

@@ -104,8 +104,8 @@ static mecab_node_t *node_of(const tokens *of, kumquatsieve_segmenter *segmenter
 
 /* If threads make the node of one token at the same time, the first one is kept. The number of
    tokens is read from the file separately, so a file that was overwritten may have fewer. */
-bool keep_token(const tokens *of, kumquatsieve_segmenter *segmenter, const kumquatsieve_word *word,
-                fault *error) {
+bool add_token(const tokens *of, kumquatsieve_segmenter *segmenter, const kumquatsieve_word *word,
+               fault *error) {
     size_t token = of->starts[word->dictionary] + word->token;
     if (token >= of->starts[word->dictionary + 1])
         return fail(error, "dictionary %zu was overwritten while it was being loaded",

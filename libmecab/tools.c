@@ -21,7 +21,7 @@ static tool *find_tool(const char *name) {
     return found;
 }
 
-static int hand_on(const char *name, tool *here, int count, char **words) {
+static int forward_call(const char *name, tool *here, int count, char **words) {
     tool *there = find_tool(name);
     if (there && there != here) return there(count, words);
     fail_left_out(common_fault(), name);
@@ -30,17 +30,17 @@ static int hand_on(const char *name, tool *here, int count, char **words) {
 }
 
 int mecab_dict_index(int count, char **words) {
-    return hand_on(__func__, mecab_dict_index, count, words);
+    return forward_call(__func__, mecab_dict_index, count, words);
 }
 int mecab_dict_gen(int count, char **words) {
-    return hand_on(__func__, mecab_dict_gen, count, words);
+    return forward_call(__func__, mecab_dict_gen, count, words);
 }
 int mecab_cost_train(int count, char **words) {
-    return hand_on(__func__, mecab_cost_train, count, words);
+    return forward_call(__func__, mecab_cost_train, count, words);
 }
 int mecab_system_eval(int count, char **words) {
-    return hand_on(__func__, mecab_system_eval, count, words);
+    return forward_call(__func__, mecab_system_eval, count, words);
 }
 int mecab_test_gen(int count, char **words) {
-    return hand_on(__func__, mecab_test_gen, count, words);
+    return forward_call(__func__, mecab_test_gen, count, words);
 }

@@ -51,7 +51,8 @@ bool add_found(mecab_lattice_t *lattice, part *of, fault *error) {
     return true;
 }
 
-/* They are sorted by their starts; those of one start are in the order of its words. */
+/* The nodes are in the order of their starts, and nodes with the same start in the order of the
+   words that start there. */
 bool find_nodes(mecab_lattice_t *lattice, fault *error) {
     part whole = {.is_whole = true};
     lattice->found_count = 0;

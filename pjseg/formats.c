@@ -26,25 +26,25 @@ static const uint8_t NO_WORDS[] = {
 };
 // clang-format on
 
-bool set_format(const options *asked, kumquatsieve_segmenter *segmenter, fault *why) {
+bool set_format(const options *chosen, kumquatsieve_segmenter *segmenter, fault *why) {
     kumquatsieve_error error;
-    uint32_t code = asked->is_wakati
+    uint32_t code = chosen->is_wakati
                         ? kumquatsieve_set_format(segmenter, "%m ", NULL, NULL, "\\n", &error)
-                        : kumquatsieve_set_format(segmenter, asked->node, asked->unk, asked->bos,
-                                                  asked->eos, &error);
+                        : kumquatsieve_set_format(segmenter, chosen->node, chosen->unk, chosen->bos,
+                                                  chosen->eos, &error);
     if (code == KUMQUATSIEVE_OK) return true;
     *why = (fault){.code = code, .number = error.position, .part = (uint32_t)error.number};
     return false;
 }
 
-bool check_format(const options *asked, fault *why) {
+bool check_format(const options *chosen, fault *why) {
     kumquatsieve_segmenter segmenter = KUMQUATSIEVE_EMPTY;
     kumquatsieve_dictionary *dictionary = NULL;
     const kumquatsieve_image image = {NO_WORDS, sizeof NO_WORDS};
     why->code = kumquatsieve_dictionary_load(&dictionary, &image, 1, 0, NULL);
     if (why->code == KUMQUATSIEVE_OK)
         why->code = kumquatsieve_segmenter_open(&segmenter, dictionary, NULL);
-    bool is_good = why->code == KUMQUATSIEVE_OK && set_format(asked, &segmenter, why);
+    bool is_good = why->code == KUMQUATSIEVE_OK && set_format(chosen, &segmenter, why);
     kumquatsieve_segmenter_close(&segmenter);
     kumquatsieve_dictionary_release(dictionary);
     return is_good;

@@ -15,10 +15,10 @@ enum {
     KEPT_LEAST = 262144,
 };
 
-bool make_worker(worker *own, const options *asked, kumquatsieve_dictionary *dictionary) {
+bool make_worker(worker *own, const options *chosen, kumquatsieve_dictionary *dictionary) {
     own->group = GROUP_FIRST;
     own->text.bytes = malloc(PIECE_ROOM);
-    return own->text.bytes && make_segmenter(asked, dictionary, &own->segmenter);
+    return own->text.bytes && make_segmenter(chosen, dictionary, &own->segmenter);
 }
 
 void free_worker(worker *own) {
@@ -27,7 +27,7 @@ void free_worker(worker *own) {
     free(own->kept);
 }
 
-void begin_piece(worker *own) {
+void start_piece(worker *own) {
     own->written_to = own->segmented_to = 0;
     own->printed = 0;
 }
@@ -84,7 +84,7 @@ bool keep_group(worker *own) {
     return true;
 }
 
-void note_written(worker *own) {
+void mark_written(worker *own) {
     own->kept_length = 0;
     own->kept_lines = 0;
     own->written_to = own->segmented_to;

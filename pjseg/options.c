@@ -23,11 +23,11 @@ static const row ROWS[] = {
 };
 
 /* The state of reading a command line: `at` is the next word, and `given` is true for each letter
-   that was given. `users` has asked->user_count names. */
+   that was given. `users` has chosen->user_count names. */
 typedef struct reading {
     char **words;
     int count, at;
-    options *asked;
+    options *chosen;
     const char *dic, *output, **users;
     int *status;
     bool given[UCHAR_MAX + 1];
@@ -41,10 +41,10 @@ static step no_memory(reading *of) {
 }
 
 /* Prints that a word is wrong, in one line between two texts. */
-static step wrong_with(reading *of, const char *before, const char *word, const char *behind) {
+static step wrong_with(reading *of, const char *before, const char *word, const char *after) {
     char *line = one_line(word);
     if (!line) return no_memory(of);
-    print_usage_error("%s '%s' %s", before, line, behind);
+    print_usage_error("%s '%s' %s", before, line, after);
     free(line);
     return WRONG;
 }
@@ -61,8 +61,8 @@ static step wrong_word(reading *of, const char *word) {
     return unexpected(of, word, instead_of_word(word));
 }
 
-/* Prints the text of --help or --version. */
-static step answer(reading *of, const char *text) {
+/* Prints the text of --help or --version, after which the program ends. */
+static step print_and_end(reading *of, const char *text) {
     *of->status = print_text(text) ? STATUS_DONE : print_fault(&(fault){.code = FAULT_OUTPUT});
     return ENDED;
 }
@@ -72,10 +72,10 @@ static step read_number(reading *of, const row *option, const char *text, long l
                         uint32_t *number) {
     const char *digits = text + (*text == '+' || *text == '-');
     if (*digits == '\0' || digits[strspn(digits, "0123456789")] != '\0') {
-        char behind[64];
-        snprintf(behind, sizeof behind, "for '-%c <%s>': not a number", option->letter,
+        char after[64];
+        snprintf(after, sizeof after, "for '-%c <%s>': not a number", option->letter,
                  option->value);
-        return wrong_with(of, "invalid value", text, behind);
+        return wrong_with(of, "invalid value", text, after);
     }
     /* A number that is too large for a long is the largest one. */
     long found = strtol(text, NULL, 10);
@@ -89,17 +89,17 @@ static step read_number(reading *of, const row *option, const char *text, long l
 }
 
 static step set_value(reading *of, const row *option, const char *value) {
-    options *asked = of->asked;
+    options *chosen = of->chosen;
     switch (option->letter) {
     case 'd': of->dic = value; break;
-    case 'u': of->users[asked->user_count++] = value; break;
-    case 'j': return read_number(of, option, value, 1, THREADS_MOST, &asked->threads);
-    case 'M': return read_number(of, option, value, 0, GROUPING_MOST, &asked->grouping);
+    case 'u': of->users[chosen->user_count++] = value; break;
+    case 'j': return read_number(of, option, value, 1, THREADS_MOST, &chosen->threads);
+    case 'M': return read_number(of, option, value, 0, GROUPING_MOST, &chosen->grouping);
     case 'O': of->output = value; break;
-    case 'F': asked->node = value; break;
-    case 'U': asked->unk = value; break;
-    case 'B': asked->bos = value; break;
-    default: asked->eos = value; break;
+    case 'F': chosen->node = value; break;
+    case 'U': chosen->unk = value; break;
+    case 'B': chosen->bos = value; break;
+    default: chosen->eos = value; break;
     }
     return NEXT;
 }
@@ -148,9 +148,9 @@ static const row *row_of(char letter) {
 
 /* Prints that an option was given twice. `value` is the name of its value, or NULL. */
 static step given_twice(const char *name, const char *value) {
-    const char *before = value ? " <" : "", *behind = value ? ">" : "";
+    const char *before = value ? " <" : "", *after = value ? ">" : "";
     print_usage_error("the argument '%s%s%s%s' cannot be used multiple times", name, before,
-                      value ? value : "", behind);
+                      value ? value : "", after);
     return WRONG;
 }
 
@@ -158,14 +158,14 @@ static step given_twice(const char *name, const char *value) {
 static step read_letters(reading *of, const char *word) {
     for (const char *at = word + 1; *at; at++) {
         const row *option = row_of(*at);
-        if (*at == 'h') return answer(of, HELP);
-        if (*at == 'V') return answer(of, VERSION);
+        if (*at == 'h') return print_and_end(of, HELP);
+        if (*at == 'V') return print_and_end(of, VERSION);
         if (!option) return unexpected(of, word, instead_of_letter(*at));
         if (of->given[(unsigned char)*at] && !option->is_repeated)
             return given_twice((char[]){'-', *at, '\0'}, option->value);
         of->given[(unsigned char)*at] = true;
         if (option->value) return read_value(of, option, at + 1);
-        of->asked->is_verbose = true;
+        of->chosen->is_verbose = true;
     }
     return NEXT;
 }
@@ -190,9 +190,9 @@ static unsigned opening_of(const char *word) {
 
 static step read_opening(reading *of, const char *word, unsigned how) {
     const unsigned either = KUMQUATSIEVE_SKIP_DIGEST | KUMQUATSIEVE_TEST_DIGEST;
-    if (of->asked->flags & how) return given_twice(word, NULL);
-    of->asked->flags |= how;
-    if ((of->asked->flags & either) != either) return NEXT;
+    if (of->chosen->flags & how) return given_twice(word, NULL);
+    of->chosen->flags |= how;
+    if ((of->chosen->flags & either) != either) return NEXT;
     print_usage_error("the argument '--test-digest' cannot be used with '--skip-digest'");
     return WRONG;
 }
@@ -201,8 +201,8 @@ static step read_word(reading *of) {
     const char *word = of->words[of->at++];
     unsigned how = opening_of(word);
     if (how) return read_opening(of, word, how);
-    if (strcmp(word, "--help") == 0) return answer(of, HELP);
-    if (strcmp(word, "--version") == 0) return answer(of, VERSION);
+    if (strcmp(word, "--help") == 0) return print_and_end(of, HELP);
+    if (strcmp(word, "--version") == 0) return print_and_end(of, VERSION);
     if (strcmp(word, "--") == 0)
         return of->at == of->count ? NEXT : wrong_word(of, of->words[of->at]);
     if (word[0] != '-' || word[1] == '\0' || word[1] == '-') return wrong_word(of, word);
@@ -229,26 +229,26 @@ static step wrong_directory(reading *of, const char *path) {
 
 /* Finds the images by their names. Returns false if memory runs out. */
 static bool find_images(reading *of) {
-    options *asked = of->asked;
-    asked->dic = find_image(of->dic);
-    for (size_t i = 0; asked->dic && i < asked->user_count; i++) {
-        asked->users[i] = find_image(of->users[i]);
-        if (!asked->users[i]) return false;
+    options *chosen = of->chosen;
+    chosen->dic = find_image(of->dic);
+    for (size_t i = 0; chosen->dic && i < chosen->user_count; i++) {
+        chosen->users[i] = find_image(of->users[i]);
+        if (!chosen->users[i]) return false;
     }
-    return asked->dic != NULL;
+    return chosen->dic != NULL;
 }
 
 /* Checks the options together, and finds the images. */
 static step finish(reading *of) {
     const char *instead = of->output ? instead_of_output(of->output) : NULL;
-    of->asked->is_wakati = of->output != NULL;
+    of->chosen->is_wakati = of->output != NULL;
     if (instead || !of->dic) {
         print_usage_error("%s", instead ? instead : "-d IMG is required");
         return WRONG;
     }
     if (!find_images(of)) return no_memory(of);
-    if (!is_mecab_directory(of->asked->dic)) return NEXT;
-    return wrong_directory(of, of->asked->dic);
+    if (!is_mecab_directory(of->chosen->dic)) return NEXT;
+    return wrong_directory(of, of->chosen->dic);
 }
 
 static bool are_utf8(char **words, int count) {
@@ -269,20 +269,20 @@ static bool read_words(reading *of) {
     return now == NEXT;
 }
 
-bool read_options(int count, char **words, options *asked, int *status) {
+bool read_options(int count, char **words, options *chosen, int *status) {
     size_t room = (size_t)count + 1;
-    *asked = (options){.users = calloc(room, sizeof *asked->users),
-                       .grouping = GROUPING_DEFAULT,
-                       .threads = processors()};
+    *chosen = (options){.users = calloc(room, sizeof *chosen->users),
+                        .grouping = GROUPING_DEFAULT,
+                        .threads = processors()};
     reading own = {.words = words,
                    .count = count,
                    .at = 1,
-                   .asked = asked,
+                   .chosen = chosen,
                    .users = calloc(room, sizeof *own.users),
                    .status = status};
     bool is_read = false;
-    *status = STATUS_WRONG;
-    if (asked->users && own.users) {
+    *status = STATUS_USAGE;
+    if (chosen->users && own.users) {
         is_read = read_words(&own);
     } else {
         *status = print_fault(&(fault){.code = KUMQUATSIEVE_MEMORY});

@@ -77,7 +77,7 @@ static bool has(const char *directory, const char *name) {
     return is_there;
 }
 
-/* That is a compiled one, or sources. */
+/* Recognizes compiled dictionaries and sources. */
 bool is_mecab_directory(const char *path) {
     return has(path, "sys.dic") || has(path, "matrix.def");
 }

@@ -17,7 +17,7 @@ enum {
 };
 
 /* The exit statuses other than those of errors. */
-enum { STATUS_DONE = 0, STATUS_WRONG = 2 };
+enum { STATUS_DONE = 0, STATUS_USAGE = 2 };
 
 /* Errors of this program, in addition to those of the library, with codes of the same form.
    KUMQUATSIEVE_FILE is reported with the path and the errno. */
@@ -53,7 +53,7 @@ typedef struct options {
 
 /* options.c. Reads a command line. Returns whether there is a text to segment. If not, everything
    was printed, and the program ends with *status. */
-bool read_options(int count, char **words, options *asked, int *status);
+bool read_options(int count, char **words, options *chosen, int *status);
 
 /* rejected_options.c. Return what to do instead of an option of jseg or MeCab, by its letter, which
    is not 0, or by its word, or instead of the name of an output format; NULL if none is known. */
@@ -76,7 +76,7 @@ void print_usage_error(const char *format, ...) __attribute__((format(printf, 1,
 int print_fault(const fault *why);
 
 /* Print hints for an error, on a terminal or with -v: its reason, and how to explain its code. */
-void print_cause(const options *asked, const fault *why);
+void print_cause(const options *chosen, const fault *why);
 void print_explanation(const fault *why);
 
 /* Prints a text on standard output. Returns false if that fails. */
@@ -130,23 +130,24 @@ bool is_mecab_directory(const char *path);
 void print_image_directories(const fault *why);
 
 /* formats.c. Checks the format of the options. Returns false, and sets *why, if it is invalid. */
-bool check_format(const options *asked, fault *why);
+bool check_format(const options *chosen, fault *why);
 
 /* Sets the format of a segmenter with a dictionary. Returns false and sets *why after an error. */
-bool set_format(const options *asked, kumquatsieve_segmenter *segmenter, fault *why);
+bool set_format(const options *chosen, kumquatsieve_segmenter *segmenter, fault *why);
 
 /* dictionary.c. Checks the format, and opens the images of the options. Returns false, and sets
  *why, after an error. */
-bool open_dictionary(const options *asked, kumquatsieve_dictionary **dictionary, fault *why);
+bool open_dictionary(const options *chosen, kumquatsieve_dictionary **dictionary, fault *why);
 
 /* Fills an empty segmenter with the dictionary, and the format and the grouping of the options,
    which are valid. Returns false if memory runs out. */
-bool make_segmenter(const options *asked, kumquatsieve_dictionary *dictionary,
+bool make_segmenter(const options *chosen, kumquatsieve_dictionary *dictionary,
                     kumquatsieve_segmenter *segmenter);
 
 /* pieces.c. Reads standard input in pieces of whole lines. The limits are in bytes: READ_MOST for a
    read, LINE_MOST for a line, both as in jseg. Every piece but the last has PIECE_MOST bytes or
-   more, unless less is asked for. PIECE_ROOM has room for an incomplete line and one more read. */
+   more, unless the caller requests less. PIECE_ROOM has room for an incomplete line and one more
+   read. */
 enum {
     READ_MOST = 65536,
     LINE_MOST = 1048576,
@@ -154,7 +155,7 @@ enum {
     PIECE_ROOM = PIECE_MOST + READ_MOST,
 };
 
-typedef enum ending { GOES_ON, AT_END, READ_FAILED, LINE_TOO_LONG, COMES_TO_NO_END } ending;
+typedef enum ending { MORE, AT_END, READ_FAILED, LINE_TOO_LONG, ENDLESS } ending;
 
 /* Whole lines of the text, and what follows. At AT_END the last line may lack its line feed. */
 typedef struct piece {
@@ -206,11 +207,11 @@ enum { KEPT_MOST = 16777216 };
 
 /* Makes a worker with a segmenter over the dictionary. Returns false if memory runs out. The caller
    frees the worker in each case. */
-bool make_worker(worker *own, const options *asked, kumquatsieve_dictionary *dictionary);
+bool make_worker(worker *own, const options *chosen, kumquatsieve_dictionary *dictionary);
 void free_worker(worker *own);
 
 /* Prepares a worker for the piece that was read into it. */
-void begin_piece(worker *own);
+void start_piece(worker *own);
 
 /* Segments the next group. Returns whether another one follows: false at the end of the piece, and
    after an error. */
@@ -220,8 +221,8 @@ bool segment_group(worker *own);
    does not fit, or if no memory can be allocated for it. */
 bool keep_group(worker *own);
 
-/* Notes that all waiting output was written. */
-void note_written(worker *own);
+/* Records that all waiting output was written. */
+void mark_written(worker *own);
 
 /* Returns how many bytes the next piece should have so that its output can be kept, if it prints as
    this one did. */
@@ -242,7 +243,7 @@ void warn_of(warnings *left, const uint8_t *text, size_t length, uint64_t before
 
 /* progress.c. Prints on a terminal how much of the text was segmented and written. One thread at a
    time calls print_progress. */
-void begin_progress(void);
+void start_progress(void);
 void print_progress(uint64_t bytes);
 void erase_progress(void);
 
@@ -253,6 +254,6 @@ bool write_out(const uint8_t *at, size_t length, uint64_t *taken);
 /* queue.c. Segments standard input by the options, and writes its lines. Sets *lines to their
    number. An error of the text, of a read or of a write ends the program after the
    output before it was written. Returns false if memory runs out before the first read. */
-bool segment_input(const options *asked, kumquatsieve_dictionary *dictionary, uint64_t *lines);
+bool segment_input(const options *chosen, kumquatsieve_dictionary *dictionary, uint64_t *lines);
 
 #endif

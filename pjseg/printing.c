@@ -16,14 +16,14 @@ static void write_once(const char *text) {
 }
 
 /* Prints a message between two texts, in one write if there is memory for it. */
-static void print_between(const char *before, const char *behind, const char *format,
+static void print_between(const char *before, const char *after, const char *format,
                           va_list words) {
     char *text = NULL, *whole = NULL;
     if (vasprintf(&text, format, words) < 0) {
         write_once(PROGRAM ": Memory\n");
         return;
     }
-    if (asprintf(&whole, "%s%s%s", before, text, behind) < 0) {
+    if (asprintf(&whole, "%s%s%s", before, text, after) < 0) {
         write_once(text);
     } else {
         write_once(whole);
@@ -143,8 +143,8 @@ static void print_mark(const char *text, size_t at) {
     free(front);
 }
 
-static void print_format(const options *asked, const fault *why) {
-    const char *const texts[] = {asked->node, asked->unk, asked->bos, asked->eos};
+static void print_format(const options *chosen, const fault *why) {
+    const char *const texts[] = {chosen->node, chosen->unk, chosen->bos, chosen->eos};
     print_message("the error is in the format of %s", OPTION_OF_PART[why->part % 4]);
     if (texts[why->part % 4]) print_mark(texts[why->part % 4], why->number);
 }
@@ -168,10 +168,10 @@ static void print_reason(const char *of, uint64_t error) {
 }
 
 /* Prints why a file can't be read, or which option has the invalid format, and where. */
-void print_cause(const options *asked, const fault *why) {
+void print_cause(const options *chosen, const fault *why) {
     if (!is_interactive()) return;
     if (why->code == KUMQUATSIEVE_FILE) print_reason(why->path, why->number);
-    if (why->code >> 8 == 'P') print_format(asked, why);
+    if (why->code >> 8 == 'P') print_format(chosen, why);
 }
 
 /* Prints the command of jseg that explains an error. */

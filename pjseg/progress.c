@@ -15,7 +15,7 @@ static const char ERASE[] = "\r\x1b[K";
 
 /* The bytes of the text, or 0 if no line is printed, and the times of the start and of the next
    line in milliseconds. They change before the first thread is created, and in print_progress. */
-static uint64_t all, begun, next;
+static uint64_t all, started_at, next;
 static atomic_bool is_shown;
 
 /* Returns the time in milliseconds, or 0 if there is no clock. */
@@ -33,11 +33,11 @@ static uint64_t bytes_left(void) {
     return at >= 0 && at < found.st_size ? (uint64_t)(found.st_size - at) : 0;
 }
 
-void begin_progress(void) {
+void start_progress(void) {
     if (!isatty(STDERR_FILENO) || isatty(STDOUT_FILENO)) return;
     all = bytes_left();
-    begun = now();
-    next = begun + PATIENCE;
+    started_at = now();
+    next = started_at + PATIENCE;
 }
 
 static void print_line(const char *line) {
@@ -52,7 +52,7 @@ void print_progress(uint64_t bytes) {
     if (all == 0 || time < next) return;
     uint64_t most = bytes < all ? all : bytes;
     unsigned percent = (unsigned)(100.0 * (double)bytes / (double)most);
-    double rate = (double)bytes / 1000 / (double)(time - begun);
+    double rate = (double)bytes / 1000 / (double)(time - started_at);
     next = time + PAUSE;
     snprintf(line, sizeof line, "\rsegmented %llu of %llu bytes, %u %%, %.1f MB/s\x1b[K",
              (unsigned long long)bytes, (unsigned long long)most, percent, rate);

@@ -50,7 +50,7 @@ static void write_waiting(queue *of, worker *next) {
     if (is_fault) end_early(next->code, of->lines + lines);
     of->lines += lines;
     of->passed += length;
-    note_written(next);
+    mark_written(next);
     print_progress(of->passed);
 }
 
@@ -59,7 +59,7 @@ static void write_piece(queue *of, worker *next) {
     switch (next->text.ending) {
     case READ_FAILED: end_early(FAULT_READ, of->lines + 1);
     case LINE_TOO_LONG: end_early(KUMQUATSIEVE_TOO_LONG, of->lines + 1);
-    case COMES_TO_NO_END: end_early(FAULT_INPUT_TOO_LONG, of->lines + 1);
+    case ENDLESS: end_early(FAULT_INPUT_TOO_LONG, of->lines + 1);
     default: break;
     }
 }
@@ -74,10 +74,10 @@ static worker *read_next(queue *of) {
     of->is_reading = true;
     pthread_mutex_unlock(&of->lock);
     read_piece(&of->in, &next->text, least);
-    begin_piece(next);
+    start_piece(next);
     pthread_mutex_lock(&of->lock);
     of->is_reading = false;
-    of->is_ended = next->text.ending != GOES_ON;
+    of->is_ended = next->text.ending != MORE;
     pthread_cond_broadcast(&of->changed);
     return next;
 }
@@ -109,7 +109,7 @@ static void wait_for_turn(queue *of, const worker *own) {
 }
 
 /* Writes or keeps the output of a group, unless it is the last one of its piece. */
-static void pass_on(queue *of, worker *own) {
+static void write_or_keep(queue *of, worker *own) {
     if (!has_turn(of, own)) {
         if (keep_group(own)) return;
         wait_for_turn(of, own);
@@ -136,21 +136,21 @@ static void give(queue *of, worker *own) {
     pthread_mutex_unlock(&of->lock);
 }
 
-static void *serve(void *given) {
+static void *run_worker(void *given) {
     queue *of = given;
     worker *own;
     while ((own = take(of))) {
-        while (segment_group(own)) pass_on(of, own);
+        while (segment_group(own)) write_or_keep(of, own);
         give(of, own);
     }
     return NULL;
 }
 
-static bool make_workers(queue *of, const options *asked, kumquatsieve_dictionary *dictionary) {
+static bool make_workers(queue *of, const options *chosen, kumquatsieve_dictionary *dictionary) {
     of->workers = calloc(of->room, sizeof *of->workers);
     if (!of->workers || !make_input(&of->in)) return false;
     for (size_t i = 0; i < of->room; i++) {
-        if (!make_worker(&of->workers[i], asked, dictionary)) return false;
+        if (!make_worker(&of->workers[i], chosen, dictionary)) return false;
     }
     return true;
 }
@@ -161,28 +161,28 @@ static void free_workers(queue *of) {
     free_input(&of->in);
 }
 
-/* Starts up to `wanted` threads and serves on the calling thread too. If a thread can't be created,
-   fewer serve. */
-static void serve_by(queue *of, pthread_t *others, uint32_t wanted) {
+/* Starts up to `wanted` threads, and runs a worker on the calling thread too. If a thread can't be
+   created, fewer threads run. */
+static void run_workers(queue *of, pthread_t *others, uint32_t wanted) {
     uint32_t made = 0;
-    while (made < wanted && pthread_create(&others[made], NULL, serve, of) == 0) made++;
+    while (made < wanted && pthread_create(&others[made], NULL, run_worker, of) == 0) made++;
     log_message("%u of %u threads", made + 1, wanted + 1);
-    serve(of);
+    run_worker(of);
     for (uint32_t i = 0; i < made; i++) pthread_join(others[i], NULL);
 }
 
-bool segment_input(const options *asked, kumquatsieve_dictionary *dictionary, uint64_t *lines) {
+bool segment_input(const options *chosen, kumquatsieve_dictionary *dictionary, uint64_t *lines) {
     queue own = {
         .lock = PTHREAD_MUTEX_INITIALIZER,
         .changed = PTHREAD_COND_INITIALIZER,
-        .room = asked->threads,
+        .room = chosen->threads,
         .least = PIECE_MOST,
         .warnings = wanted_warnings(),
     };
-    pthread_t *others = calloc(asked->threads, sizeof *others);
-    bool is_made = others && make_workers(&own, asked, dictionary);
-    begin_progress();
-    if (is_made) serve_by(&own, others, asked->threads - 1);
+    pthread_t *others = calloc(chosen->threads, sizeof *others);
+    bool is_made = others && make_workers(&own, chosen, dictionary);
+    start_progress();
+    if (is_made) run_workers(&own, others, chosen->threads - 1);
     erase_progress();
     *lines = own.lines;
     free_workers(&own);

@@ -33,7 +33,7 @@ const char VERSION[] = PROGRAM " " KUMQUATSIEVE_VERSION "\nimage layouts read: 1
 static const struct {
     char letter;
     const char *word, *instead;
-} HABITS[] = {
+} REJECTED_OPTIONS[] = {
     {0, "sources",
      "--sources is not supported: " PROGRAM
      " needs an image; compile the sources with dictc, or use jseg"},
@@ -89,8 +89,8 @@ static const char WORDS[] =
     "the text is read from standard input, so run '" PROGRAM " -d IMG < FILE'";
 
 const char *instead_of_letter(char letter) {
-    for (size_t i = 0; i < sizeof HABITS / sizeof *HABITS; i++) {
-        if (HABITS[i].letter == letter) return HABITS[i].instead;
+    for (size_t i = 0; i < sizeof REJECTED_OPTIONS / sizeof *REJECTED_OPTIONS; i++) {
+        if (REJECTED_OPTIONS[i].letter == letter) return REJECTED_OPTIONS[i].instead;
     }
     return NULL;
 }
@@ -99,14 +99,14 @@ const char *instead_of_letter(char letter) {
 static bool is_long(const char *word, const char *name) {
     size_t length = strlen(name);
     if (strncmp(word, "--", 2) != 0 || strncmp(word + 2, name, length) != 0) return false;
-    char behind = word[2 + length];
-    return behind == '\0' || behind == '=';
+    char after = word[2 + length];
+    return after == '\0' || after == '=';
 }
 
 const char *instead_of_word(const char *word) {
     if (word[0] != '-' || word[1] == '\0') return WORDS;
-    for (size_t i = 0; i < sizeof HABITS / sizeof *HABITS; i++) {
-        if (is_long(word, HABITS[i].word)) return HABITS[i].instead;
+    for (size_t i = 0; i < sizeof REJECTED_OPTIONS / sizeof *REJECTED_OPTIONS; i++) {
+        if (is_long(word, REJECTED_OPTIONS[i].word)) return REJECTED_OPTIONS[i].instead;
     }
     return NULL;
 }

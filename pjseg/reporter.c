@@ -8,9 +8,9 @@
 
 /* Set before the first thread is created. */
 static bool verbose;
-static struct timespec began;
+static struct timespec started_at;
 
-void start_log(void) { verbose = clock_gettime(CLOCK_MONOTONIC, &began) == 0; }
+void start_log(void) { verbose = clock_gettime(CLOCK_MONOTONIC, &started_at) == 0; }
 
 bool is_verbose(void) { return verbose; }
 
@@ -21,7 +21,8 @@ void log_message(const char *format, ...) {
     va_list words;
     char *text = NULL;
     if (!verbose || clock_gettime(CLOCK_MONOTONIC, &now) != 0) return;
-    long hundredths = (now.tv_sec - began.tv_sec) * 100 + (now.tv_nsec - began.tv_nsec) / 10000000;
+    long hundredths =
+        (now.tv_sec - started_at.tv_sec) * 100 + (now.tv_nsec - started_at.tv_nsec) / 10000000;
     va_start(words, format);
     int made = vasprintf(&text, format, words);
     va_end(words);

@@ -53,7 +53,7 @@ static bool add_dir(image_dirs *dirs, char *path) {
 }
 
 /* Adds the user's own directory, if there is one. */
-static bool add_own(image_dirs *dirs) {
+static bool add_user_dir(image_dirs *dirs) {
     const char *share = absolute_path("XDG_DATA_HOME"), *home = absolute_path("HOME");
     if (share) return add_dir(dirs, joined(share, "/kumquatsieve"));
     return !home || add_dir(dirs, joined(home, "/.local/share/kumquatsieve"));
@@ -70,7 +70,7 @@ static bool add_installed(image_dirs *dirs, const char *prefix) {
 bool find_image_dirs(image_dirs *found) {
     char *prefix = installed_prefix();
     *found = (image_dirs){.count = 0};
-    bool is_found = prefix && add_own(found) && add_installed(found, prefix);
+    bool is_found = prefix && add_user_dir(found) && add_installed(found, prefix);
     free(prefix);
     if (!is_found) free_image_dirs(found);
     return is_found;
@@ -141,7 +141,7 @@ static uint32_t find_only(char **path, kumquatsieve_error *error) {
     if (count == 1) return KUMQUATSIEVE_OK;
     return fail_name(error, 0, NULL,
                      count == 0
-                         ? "no dictionary is installed; kumquatsieve-import makes one"
+                         ? "no dictionary is installed; compile an image with kumquatsieve-import"
                          : "several dictionaries are installed, and none is named by the caller or "
                            "by KUMQUATSIEVE_DICTIONARY");
 }

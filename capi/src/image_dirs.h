@@ -43,6 +43,6 @@ uint32_t copy_texts(const char *const *texts, size_t count, char *out, size_t ro
 bool only_system_image(char **path, size_t *count);
 
 /* Reports that neither a file nor an image has a bare name, with the directories that were searched
-   and the names of the images there. */
+   and the names of the images there. Advice is left to those who print the message. */
 uint32_t fail_unknown(kumquatsieve_error *error, size_t number, const char *name);
 #endif

@@ -181,8 +181,8 @@ bool are_same_file(const struct stat *one, const struct stat *other);
    in its header. */
 bool has_record(int directory, const char *name, int image, const struct stat *of, uint64_t layout);
 
-/* reading.c. The first bytes of an image, from which its length is known before the rest is read or
-   mapped. */
+/* reading.c. The first bytes of an image, from which its length is known before the remainder is
+   read or mapped. */
 enum { HEADER_LENGTH = 104, NEWEST_LAYOUT = 3, SHA256_LENGTH = 32 };
 
 typedef struct header {
@@ -201,12 +201,13 @@ int read_header(int file, header *to);
 /* Sets the layout and the length of the image. Returns the error that every image with this header
    has, and sets *number. `length` is that of the whole image, or UINT64_MAX. Returns
    KUMQUATSIEVE_OK if the header is incomplete. */
-uint32_t judge_header(header *of, uint64_t length, uint64_t *number);
+uint32_t check_header(header *of, uint64_t length, uint64_t *number);
 
 /* Returns the length of a file, or UINT64_MAX if it is unknown: some file systems report 0 for a
    regular file that has bytes. */
 uint64_t known_length(const struct stat *file);
 
-/* Appends the header and the rest of the file to an image without bytes. Returns 0 or an errno. */
-int read_rest(int file, const header *first, image *to);
+/* Appends the header and the remainder of the file to an image without bytes. Returns 0 or an
+   errno. */
+int read_remainder(int file, const header *first, image *to);
 #endif

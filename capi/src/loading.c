@@ -70,7 +70,7 @@ bool is_trusted(const image *of, uint32_t flags) {
     if (!(flags & KUMQUATSIEVE_TRUSTED) || of->length < HEADER_LENGTH) return false;
     for (; first.length < HEADER_LENGTH; first.length++)
         first.bytes[first.length] = of->bytes[first.length];
-    return judge_header(&first, of->length, &number) == KUMQUATSIEVE_OK &&
+    return check_header(&first, of->length, &number) == KUMQUATSIEVE_OK &&
            first.layout == NEWEST_LAYOUT;
 }
 

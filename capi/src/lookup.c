@@ -2,7 +2,7 @@
    segmenter of the call's own segments. */
 #include "segmenter.h"
 
-/* Returns whether a node is an entry that the flags ask for, of a text of `length` bytes. The line
+/* Returns whether a node is an entry that the flags select, of a text of `length` bytes. The line
    has no word before it, so its place is 0. */
 static bool is_wanted(const kumquatsieve_node *node, size_t length, uint32_t flags) {
     const kumquatsieve_word *word = &node->word;

@@ -7,7 +7,7 @@
 #include <string.h>
 #include <sys/mman.h>
 
-/* The kernel is asked for huge pages for as many bytes or more: an image is read at random
+/* Huge pages are requested for as many bytes or more: an image is read at random
    positions, and with small pages most of these reads wait for the translation of an address. */
 static const size_t LARGE = (size_t)32 << 20;
 

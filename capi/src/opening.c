@@ -87,7 +87,7 @@ static uint32_t take_bytes(kumquatsieve_dictionary *to, size_t number, opened *f
     uint64_t detail = 0;
     int why = read_header(from->file, first);
     if (why != 0) return fail_file(error, why, number, one->path);
-    uint32_t code = judge_header(first, known_length(&one->of), &detail);
+    uint32_t code = check_header(first, known_length(&one->of), &detail);
     if (code != KUMQUATSIEVE_OK) return fail_image(error, code, detail, number, one->path);
     bool is_whole =
         first->length == HEADER_LENGTH && (uint64_t)one->of.st_size == first->image_length;
@@ -95,7 +95,7 @@ static uint32_t take_bytes(kumquatsieve_dictionary *to, size_t number, opened *f
     why = is_mapped ? map_file(from->file, one) : ENODEV;
     *is_tested =
         why == 0 && has_record(from->directory, from->name, from->file, &one->of, first->layout);
-    if (why == ENODEV) why = read_rest(from->file, first, one);
+    if (why == ENODEV) why = read_remainder(from->file, first, one);
     if (why != 0) return fail_file(error, why, number, one->path);
     *is_tested = *is_tested || is_trusted(one, to->flags);
     return code;
@@ -148,14 +148,14 @@ static uint32_t open_all(kumquatsieve_dictionary *made, const char *name, const 
     opened *files = malloc(made->count * sizeof *files);
     if (!files) return fail(error, KUMQUATSIEVE_MEMORY);
     for (size_t i = 0; i < made->count; i++) files[i] = (opened){.directory = -1, .file = -1};
-    uint32_t rest = open_files(made, name, users, files, &count, &later);
-    *found = rest == KUMQUATSIEVE_OK ? find_open(made) : NULL;
+    uint32_t open_code = open_files(made, name, users, files, &count, &later);
+    *found = open_code == KUMQUATSIEVE_OK ? find_open(made) : NULL;
     uint32_t code = *found ? KUMQUATSIEVE_OK : load_files(&of, files, count, error);
     close_all(files, made->count);
     if (*found || code != KUMQUATSIEVE_OK) return code;
-    if (rest == KUMQUATSIEVE_OK) return end_loading(&of, error);
+    if (open_code == KUMQUATSIEVE_OK) return end_loading(&of, error);
     if (error) *error = later;
-    return rest;
+    return open_code;
 }
 
 uint32_t kumquatsieve_dictionary_open(kumquatsieve_dictionary **dictionary, const char *name,

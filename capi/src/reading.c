@@ -1,6 +1,6 @@
-/* Reads the header of an image, and the rest of one that can't be mapped. The header is tested
-   before the rest is read, so a wrong file of any length is rejected at once. docs/FORMAT.md has
-   its layout. */
+/* Reads the header of an image, and the remainder of one that can't be mapped. The header is tested
+   before the remainder is read, so a wrong file of any length is rejected at once. docs/FORMAT.md
+   has its layout. */
 #include "library.h"
 #include <endian.h>
 #include <errno.h>
@@ -44,7 +44,7 @@ uint64_t known_length(const struct stat *file) {
     return is_known ? (uint64_t)file->st_size : UINT64_MAX;
 }
 
-uint32_t judge_header(header *of, uint64_t length, uint64_t *number) {
+uint32_t check_header(header *of, uint64_t length, uint64_t *number) {
     if (of->length < HEADER_LENGTH) return KUMQUATSIEVE_OK;
     of->layout = number_at(of->bytes + LAYOUT_AT, 4);
     if (memcmp(of->bytes, MAGIC, sizeof MAGIC - 1) != 0) return KUMQUATSIEVE_BAD_MAGIC;
@@ -59,8 +59,8 @@ uint32_t judge_header(header *of, uint64_t length, uint64_t *number) {
     return KUMQUATSIEVE_BAD_SECTION;
 }
 
-/* Appends the rest of a file. Stops when more than `most` bytes were read in all. Returns 0 or an
-   errno. */
+/* Appends the remainder of a file. Stops when more than `most` bytes were read in all. Returns 0 or
+   an errno. */
 static int read_past(int file, uint64_t most, image *to) {
     ssize_t got = 1;
     int error = 0;
@@ -75,7 +75,7 @@ static int read_past(int file, uint64_t most, image *to) {
 }
 
 /* Makes room for all bytes at once if the length is known, so that none is moved. */
-int read_rest(int file, const header *first, image *to) {
+int read_remainder(int file, const header *first, image *to) {
     bool is_short = first->length < HEADER_LENGTH;
     bool is_known = !is_short && known_length(&to->of) == first->image_length;
     int error = 0;

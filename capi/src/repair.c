@@ -86,7 +86,7 @@ static bool add_other(repaired *to, const unsigned char *text, size_t *at, size_
             given = is_pair ? PAIR_LENGTH : 1;
     if (!add_exchange(to, *at, length, given)) return false;
     if (!add_text(to, is_pair ? pair : REPLACEMENT, length)) return false;
-    to->bad += !is_pair;
+    to->invalid_count += !is_pair;
     *at += given;
     return true;
 }
@@ -99,7 +99,7 @@ size_t valid_length(const char *text, size_t length) {
 }
 
 bool repair(repaired *to, const char *given, size_t length) {
-    to->length = to->count = to->bad = 0;
+    to->length = to->count = to->invalid_count = 0;
     for (size_t at = 0; at < length;) {
         size_t good = valid_length(given + at, length - at);
         if (good > 0 && !add_text(to, given + at, good)) return false;
@@ -141,12 +141,12 @@ void cut_repaired(repaired *of, size_t length) {
     of->length = length;
     while (of->count > 0 && of->exchanges[of->count - 1].at >= length) {
         const exchange *last = &of->exchanges[--of->count];
-        if (last->given == 1) of->bad -= last->times;
+        if (last->given == 1) of->invalid_count -= last->times;
     }
     exchange *last = of->count > 0 ? &of->exchanges[of->count - 1] : NULL;
     if (!last || last->at + last->times * last->length <= length) return;
     uint32_t kept = (uint32_t)(length - last->at) / last->length;
-    if (last->given == 1) of->bad -= last->times - kept;
+    if (last->given == 1) of->invalid_count -= last->times - kept;
     last->times = kept;
 }
 

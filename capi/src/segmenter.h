@@ -1,4 +1,4 @@
-/* What a segmenter has beside the core. */
+/* The state of a segmenter outside the core. */
 #ifndef SEGMENTER_H
 #define SEGMENTER_H
 #include "library.h"
@@ -10,13 +10,14 @@ typedef struct exchange {
     uint8_t length, given;
 } exchange;
 
-/* A line whose invalid bytes were replaced. `bad` counts the bytes that U+FFFD replaced. */
+/* A line whose invalid bytes were replaced. `invalid_count` counts the bytes that U+FFFD replaced.
+ */
 typedef struct repaired {
     char *text;
     size_t length, room;
     exchange *exchanges;
     size_t count, exchange_room;
-    size_t bad;
+    size_t invalid_count;
 } repaired;
 
 /* The state of a full segmenter. The last line starts at `start` of the caller's text; if it was

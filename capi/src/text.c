@@ -62,7 +62,7 @@ static uint32_t segment_repaired(kumquatsieve_segmenter *segmenter, const char *
     uint32_t code = proved_segment_whole(segmenter, fresh->text, fresh->length, &line->count,
                                          &line->total, &at);
     if (code != KUMQUATSIEVE_OK) return code;
-    line->replaced = fresh->bad;
+    line->replaced = fresh->invalid_count;
     of->last = *fresh;
     of->spare = last;
     return code;

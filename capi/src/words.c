@@ -121,17 +121,17 @@ uint32_t kumquatsieve_nodes(kumquatsieve_segmenter *segmenter, const kumquatsiev
 }
 
 /* A call of the core that passes a text. */
-typedef uint32_t lend(kumquatsieve_segmenter *segmenter, const char **text, size_t *length);
+typedef uint32_t text_call(kumquatsieve_segmenter *segmenter, const char **text, size_t *length);
 
-static uint32_t borrow(kumquatsieve_segmenter *segmenter, lend *call, const char **text,
+static uint32_t borrow(kumquatsieve_segmenter *segmenter, text_call *call, const char **text,
                        size_t *length, kumquatsieve_error *error) {
-    const char *lent = NULL;
-    size_t lent_length = 0;
+    const char *borrowed = NULL;
+    size_t borrowed_length = 0;
     if (!state_in(segmenter)) return fail(error, KUMQUATSIEVE_EMPTY_SEGMENTER);
-    uint32_t code = call(segmenter, &lent, &lent_length);
+    uint32_t code = call(segmenter, &borrowed, &borrowed_length);
     if (code != KUMQUATSIEVE_OK) return fail(error, code);
-    if (text) *text = lent;
-    if (length) *length = lent_length;
+    if (text) *text = borrowed;
+    if (length) *length = borrowed_length;
     return succeed(error);
 }
 
@@ -147,20 +147,20 @@ uint32_t kumquatsieve_features(kumquatsieve_segmenter *segmenter, const char **f
 
 uint32_t kumquatsieve_feature(kumquatsieve_segmenter *segmenter, const kumquatsieve_word *word,
                               const char **feature, size_t *length, kumquatsieve_error *error) {
-    const char *lent = NULL;
-    size_t lent_length = 0;
+    const char *borrowed = NULL;
+    size_t borrowed_length = 0;
     if (!state_in(segmenter)) return fail(error, KUMQUATSIEVE_EMPTY_SEGMENTER);
     if (!word) return fail(error, KUMQUATSIEVE_BAD_ARGUMENT);
     uint32_t code = proved_entry_feature(segmenter, word->known != 0, word->dictionary, word->token,
-                                         &lent, &lent_length);
+                                         &borrowed, &borrowed_length);
     if (code != KUMQUATSIEVE_OK) return fail(error, code);
-    if (feature) *feature = lent;
-    if (length) *length = lent_length;
+    if (feature) *feature = borrowed;
+    if (length) *length = borrowed_length;
     return succeed(error);
 }
 
-/* Lends a field: in the core's buffer if it has no quotes, and else in the segmenter's own. */
-static uint32_t lend_field(state *of, const field *found, const char **text, size_t *length) {
+/* Points *text at a field: in the core's buffer if it has no quotes, or else in the segmenter's. */
+static uint32_t borrow_field(state *of, const field *found, const char **text, size_t *length) {
     *text = found->text;
     *length = found->length;
     if (!found->is_quoted) return KUMQUATSIEVE_OK;
@@ -186,7 +186,7 @@ static uint32_t find_field(kumquatsieve_segmenter *segmenter, const kumquatsieve
     for (size_t i = 0; i <= number; i++) {
         if (!next_field(&at, end, &found)) return code;
     }
-    return fail(error, lend_field(segmenter->state, &found, text, length));
+    return fail(error, borrow_field(segmenter->state, &found, text, length));
 }
 
 static uint32_t set_field(uint32_t code, const char *text, size_t text_length, const char **field,

@@ -12,8 +12,8 @@ static struct outputs {
     kumquatsieve_info info;
     kumquatsieve_word words[ROOM];
     kumquatsieve_line line;
-    const kumquatsieve_word *lent_words;
-    const kumquatsieve_node *lent_nodes;
+    const kumquatsieve_word *borrowed_words;
+    const kumquatsieve_node *borrowed_nodes;
     const char *text;
     char path[4096];
     size_t length, count;
@@ -21,7 +21,7 @@ static struct outputs {
 } out, before;
 
 static kumquatsieve_error error;
-static kumquatsieve_segmenter full, empty, uncut;
+static kumquatsieve_segmenter full, empty, idle;
 static kumquatsieve_dictionary *dictionary;
 static const kumquatsieve_word *word;
 static char long_line[LONGEST + 1];
@@ -185,16 +185,16 @@ static void lines(void) {
     PLAIN(OK, SEGMENT_TEXT(&full, LINE, strlen(LINE), 0, 0, NULL, NULL));
 #undef SEGMENT_TEXT
 #define PARSE kumquatsieve_parse_lines
-    ROW(OK, PARSE(&uncut, "a\n", 2, &out.text, &out.length, &out.lines, &error));
-    ROW(OK, PARSE(&uncut, NULL, 0, &out.text, &out.length, &out.lines, &error));
+    ROW(OK, PARSE(&idle, "a\n", 2, &out.text, &out.length, &out.lines, &error));
+    ROW(OK, PARSE(&idle, NULL, 0, &out.text, &out.length, &out.lines, &error));
     ROW(EMPTY_SEGMENTER, PARSE(&empty, "a", 1, &out.text, &out.length, &out.lines, &error));
     ROW(EMPTY_SEGMENTER, PARSE(NULL, "a", 1, &out.text, &out.length, &out.lines, &error));
-    ROW(BAD_ARGUMENT, PARSE(&uncut, NULL, 1, &out.text, &out.length, &out.lines, &error));
-    PLAIN(NOT_UTF8, PARSE(&uncut, "a\n\xff\n", 4, &out.text, &out.length, &out.lines, &error));
+    ROW(BAD_ARGUMENT, PARSE(&idle, NULL, 1, &out.text, &out.length, &out.lines, &error));
+    PLAIN(NOT_UTF8, PARSE(&idle, "a\n\xff\n", 4, &out.text, &out.length, &out.lines, &error));
     CHECK(out.lines == 2 && is_text(out.text, out.length, "a\t未知\nEOS\n"));
-    PLAIN(TOO_LONG, PARSE(&uncut, long_line, LONGEST + 1, NULL, NULL, NULL, &error));
-    PLAIN(NOT_UTF8, PARSE(&uncut, "\xff", 1, NULL, NULL, NULL, NULL));
-    PLAIN(OK, PARSE(&uncut, "a", 1, NULL, NULL, NULL, NULL));
+    PLAIN(TOO_LONG, PARSE(&idle, long_line, LONGEST + 1, NULL, NULL, NULL, &error));
+    PLAIN(NOT_UTF8, PARSE(&idle, "\xff", 1, NULL, NULL, NULL, NULL));
+    PLAIN(OK, PARSE(&idle, "a", 1, NULL, NULL, NULL, NULL));
 #undef PARSE
 }
 
@@ -203,23 +203,23 @@ static void results(void) {
 #define NODES kumquatsieve_nodes
 #define PRINT kumquatsieve_print
 #define FEATURES kumquatsieve_features
-    ROW(OK, WORDS(&full, &out.lent_words, &out.count, &error));
-    ROW(NOTHING_SEGMENTED, WORDS(&uncut, &out.lent_words, &out.count, &error));
-    ROW(EMPTY_SEGMENTER, WORDS(&empty, &out.lent_words, &out.count, &error));
-    ROW(EMPTY_SEGMENTER, WORDS(NULL, &out.lent_words, &out.count, &error));
+    ROW(OK, WORDS(&full, &out.borrowed_words, &out.count, &error));
+    ROW(NOTHING_SEGMENTED, WORDS(&idle, &out.borrowed_words, &out.count, &error));
+    ROW(EMPTY_SEGMENTER, WORDS(&empty, &out.borrowed_words, &out.count, &error));
+    ROW(EMPTY_SEGMENTER, WORDS(NULL, &out.borrowed_words, &out.count, &error));
     PLAIN(OK, WORDS(&full, NULL, NULL, NULL));
-    ROW(OK, NODES(&full, &out.lent_nodes, &out.count, &error));
-    ROW(NOTHING_SEGMENTED, NODES(&uncut, &out.lent_nodes, &out.count, &error));
-    ROW(EMPTY_SEGMENTER, NODES(&empty, &out.lent_nodes, &out.count, &error));
-    ROW(EMPTY_SEGMENTER, NODES(NULL, &out.lent_nodes, &out.count, &error));
+    ROW(OK, NODES(&full, &out.borrowed_nodes, &out.count, &error));
+    ROW(NOTHING_SEGMENTED, NODES(&idle, &out.borrowed_nodes, &out.count, &error));
+    ROW(EMPTY_SEGMENTER, NODES(&empty, &out.borrowed_nodes, &out.count, &error));
+    ROW(EMPTY_SEGMENTER, NODES(NULL, &out.borrowed_nodes, &out.count, &error));
     PLAIN(OK, NODES(&full, NULL, NULL, NULL));
     ROW(OK, PRINT(&full, &out.text, &out.length, &error));
-    ROW(NOTHING_SEGMENTED, PRINT(&uncut, &out.text, &out.length, &error));
+    ROW(NOTHING_SEGMENTED, PRINT(&idle, &out.text, &out.length, &error));
     ROW(EMPTY_SEGMENTER, PRINT(&empty, &out.text, &out.length, &error));
     ROW(EMPTY_SEGMENTER, PRINT(NULL, &out.text, &out.length, &error));
     PLAIN(OK, PRINT(&full, NULL, NULL, NULL));
     ROW(OK, FEATURES(&full, &out.text, &out.length, &error));
-    ROW(NOTHING_SEGMENTED, FEATURES(&uncut, &out.text, &out.length, &error));
+    ROW(NOTHING_SEGMENTED, FEATURES(&idle, &out.text, &out.length, &error));
     ROW(EMPTY_SEGMENTER, FEATURES(&empty, &out.text, &out.length, &error));
     ROW(EMPTY_SEGMENTER, FEATURES(NULL, &out.text, &out.length, &error));
     PLAIN(OK, FEATURES(&full, NULL, NULL, NULL));
@@ -235,7 +235,7 @@ static void fields(void) {
 #define NAMED kumquatsieve_field_named
     CHECK(kumquatsieve_words(&full, &word, NULL, NULL) == KUMQUATSIEVE_OK);
     ROW(OK, FEATURE(&full, word, &out.text, &out.length, &error));
-    ROW(OK, FEATURE(&uncut, word, &out.text, &out.length, &error));
+    ROW(OK, FEATURE(&idle, word, &out.text, &out.length, &error));
     ROW(EMPTY_SEGMENTER, FEATURE(&empty, word, &out.text, &out.length, &error));
     ROW(EMPTY_SEGMENTER, FEATURE(NULL, NULL, &out.text, &out.length, &error));
     ROW(BAD_ARGUMENT, FEATURE(&full, NULL, &out.text, &out.length, &error));
@@ -279,7 +279,7 @@ int main(int given, char **paths) {
     memset(long_line, 'z', sizeof long_line);
     CHECK(open_images(&dictionary, both, 2, NULL) == KUMQUATSIEVE_OK);
     CHECK(kumquatsieve_segmenter_open(&full, dictionary, NULL) == KUMQUATSIEVE_OK);
-    CHECK(kumquatsieve_segmenter_open(&uncut, dictionary, NULL) == KUMQUATSIEVE_OK);
+    CHECK(kumquatsieve_segmenter_open(&idle, dictionary, NULL) == KUMQUATSIEVE_OK);
     opened(system, user, paths[3]);
     from_memory(system, user);
     infos();
@@ -290,7 +290,7 @@ int main(int given, char **paths) {
     fields();
     names();
     kumquatsieve_segmenter_close(&full);
-    kumquatsieve_segmenter_close(&uncut);
+    kumquatsieve_segmenter_close(&idle);
     kumquatsieve_dictionary_release(dictionary);
     free(system.bytes);
     free(user.bytes);

@@ -21,7 +21,7 @@ static file sys;
 /* What happens before the next file is mapped, which call fails, and which length fstat reports. */
 static void (*before_mmap)(void);
 static int mmap_error, fstat_error, read_error;
-static off_t told_length;
+static off_t reported_length;
 
 void *__real_mmap(void *at, size_t length, int protection, int flags, int fd, off_t offset);
 long __real_syscall(long call, long first, struct stat *of);
@@ -45,7 +45,7 @@ long __wrap_syscall(long call, long first, struct stat *of) {
         return -1;
     }
     long done = __real_syscall(call, first, of);
-    if (done == 0 && told_length != 0) of->st_size = told_length;
+    if (done == 0 && reported_length != 0) of->st_size = reported_length;
     return done;
 }
 
@@ -107,7 +107,7 @@ static void check_row(const row *of) {
     CHECK_CASE(of->what, code == of->code && error.code == code && error.number == of->number);
     CHECK_CASE(of->what, segmenter.held == (code == KUMQUATSIEVE_OK));
     CHECK_CASE(of->what, mappings_of(NULL) == maps && open_files() == files);
-    CHECK_CASE(of->what, !segmenter.held || cuts(&segmenter, LINE, PRINTED));
+    CHECK_CASE(of->what, !segmenter.held || segments_to(&segmenter, LINE, PRINTED));
     kumquatsieve_segmenter_close(&segmenter);
 }
 
@@ -120,11 +120,11 @@ static void too_large(void) {
     memcpy(image.bytes, sys.bytes, sys.length);
     image.bytes[LENGTHS_AT + 7] |= 0x40;
     write_file(SYSTEM, image.bytes, image.length);
-    told_length = (off_t)length;
+    reported_length = (off_t)length;
     CHECK(open_paths(&segmenter, SYSTEM, NULL, 0, NULL) == KUMQUATSIEVE_MEMORY && !segmenter.held);
     CHECK(open_paths(&segmenter, SYSTEM, NULL, KUMQUATSIEVE_COPY, NULL) == KUMQUATSIEVE_MEMORY &&
           !segmenter.held);
-    told_length = 0;
+    reported_length = 0;
     free(image.bytes);
 }
 
@@ -161,7 +161,7 @@ static void stopped(void) {
         CHECK(setrlimit(RLIMIT_CORE, &none) == 0);
         CHECK(open_paths(&segmenter, SYSTEM, NULL, 0, NULL) == KUMQUATSIEVE_OK &&
               truncate(SYSTEM, 0) == 0);
-        cut(&segmenter, LINE);
+        segment_line(&segmenter, LINE);
         _exit(0);
     }
     CHECK(waitpid(child, &status, 0) == child && WIFSIGNALED(status) && WTERMSIG(status) == SIGBUS);

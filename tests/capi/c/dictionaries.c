@@ -12,14 +12,14 @@ enum { THREADS = 4, ROUNDS = 50, USER_COUNT = 17 };
 
 /* Images that make no dictionary: the code, the number of the rejected image, and the number of the
    error. */
-typedef struct refused_row {
+typedef struct rejected_row {
     const char *what;
     kumquatsieve_image images[2];
     size_t count;
     uint32_t flags, code;
     size_t image;
     uint64_t number;
-} refused_row;
+} rejected_row;
 
 static kumquatsieve_image image_of(file whole) {
     return (kumquatsieve_image){whole.bytes, whole.length};
@@ -32,7 +32,7 @@ static file copy_of(file whole) {
     return copy;
 }
 
-static void check_refused(const refused_row *row) {
+static void check_rejected(const rejected_row *row) {
     kumquatsieve_dictionary *dictionary = NULL;
     kumquatsieve_error error;
     CHECK_CASE(row->what, kumquatsieve_dictionary_load(&dictionary, row->images, row->count,
@@ -42,12 +42,12 @@ static void check_refused(const refused_row *row) {
                                                        NULL) == row->code);
 }
 
-static void refused(file system, file user) {
+static void rejected_images(file system, file user) {
     file bad = copy_of(system), odd = copy_of(system), old = copy_of(system);
     bad.bytes[8] = 9;
     old.bytes[8] = 1;
     odd.bytes[system.length - 1] ^= 1;
-    const refused_row rows[] = {
+    const rejected_row rows[] = {
         {"an empty one", {{NULL, 0}}, 1, 0, KUMQUATSIEVE_TRUNCATED, 0, 0},
         {"an empty one, trusted",
          {{NULL, 0}},
@@ -116,7 +116,7 @@ static void refused(file system, file user) {
          1,
          0},
     };
-    for (size_t i = 0; i < COUNT_OF(rows); i++) check_refused(&rows[i]);
+    for (size_t i = 0; i < COUNT_OF(rows); i++) check_rejected(&rows[i]);
     free(bad.bytes);
     free(odd.bytes);
     free(old.bytes);
@@ -141,7 +141,7 @@ static void skipped_digests(file system, file user) {
         free(second.bytes);
         CHECK(kumquatsieve_segmenter_open(&segmenter, dictionary, NULL) == KUMQUATSIEVE_OK);
         kumquatsieve_dictionary_release(dictionary);
-        CHECK(cuts(&segmenter, LINE, USERS));
+        CHECK(segments_to(&segmenter, LINE, USERS));
         kumquatsieve_segmenter_close(&segmenter);
     }
 }
@@ -159,17 +159,17 @@ static void segmenters(file system, file user) {
           kumquatsieve_segmenter_open(&first, alone, NULL) == KUMQUATSIEVE_FULL_SEGMENTER);
     CHECK(set_texts(&first, "%m ", NULL, "", "\\n") == KUMQUATSIEVE_OK);
     CHECK(kumquatsieve_segmenter_open(&second, dictionary, NULL) == KUMQUATSIEVE_OK &&
-          cuts(&second, LINE, USERS));
+          segments_to(&second, LINE, USERS));
     kumquatsieve_segmenter_close(&second);
     CHECK(kumquatsieve_segmenter_open(&second, alone, NULL) == KUMQUATSIEVE_OK &&
-          cuts(&second, LINE, PRINTED));
+          segments_to(&second, LINE, PRINTED));
     kumquatsieve_dictionary *held = kumquatsieve_dictionary_retain(dictionary);
     CHECK(held == dictionary);
     kumquatsieve_dictionary_release(alone);
     kumquatsieve_dictionary_release(dictionary);
     kumquatsieve_dictionary_release(held);
-    CHECK(cuts(&first, LINE, "すもももも \n") && cuts(&second, LINE, PRINTED));
-    CHECK(cuts(&first, "zzz", "zzz \n"));
+    CHECK(segments_to(&first, LINE, "すもももも \n") && segments_to(&second, LINE, PRINTED));
+    CHECK(segments_to(&first, "zzz", "zzz \n"));
     kumquatsieve_segmenter_close(&first);
     kumquatsieve_segmenter_close(&second);
 }
@@ -182,13 +182,13 @@ static void many_users(file system, file user) {
     size_t count = 0;
     for (size_t i = 1; i <= USER_COUNT; i++) images[i] = user;
     CHECK(load(&segmenter, images, 1 + USER_COUNT, NULL) == KUMQUATSIEVE_OK);
-    CHECK(cuts(&segmenter, LINE, USERS));
+    CHECK(segments_to(&segmenter, LINE, USERS));
     CHECK(kumquatsieve_words(&segmenter, &words, &count, NULL) == KUMQUATSIEVE_OK && count == 1 &&
           words->dictionary == 1);
     kumquatsieve_segmenter_close(&segmenter);
 }
 
-static void cut_once(kumquatsieve_dictionary *dictionary) {
+static void segment_once(kumquatsieve_dictionary *dictionary) {
     kumquatsieve_segmenter own = KUMQUATSIEVE_EMPTY;
     kumquatsieve_dictionary *held = kumquatsieve_dictionary_retain(dictionary);
     size_t count = 0;
@@ -197,13 +197,13 @@ static void cut_once(kumquatsieve_dictionary *dictionary) {
           count == 1);
     CHECK(kumquatsieve_segmenter_open(&own, held, NULL) == KUMQUATSIEVE_OK);
     kumquatsieve_dictionary_release(held);
-    CHECK(cuts(&own, LINE, USERS));
+    CHECK(segments_to(&own, LINE, USERS));
     kumquatsieve_segmenter_close(&own);
 }
 
 /* Opens segmenters over one dictionary and segments with them, on several threads at once. */
-static void *cut_often(void *given) {
-    for (int round = 0; round < ROUNDS; round++) cut_once(given);
+static void *segment_often(void *given) {
+    for (int round = 0; round < ROUNDS; round++) segment_once(given);
     return NULL;
 }
 
@@ -214,7 +214,7 @@ static void fork_often(kumquatsieve_dictionary *dictionary, int forks) {
         pid_t child = fork();
         CHECK(child >= 0);
         if (child == 0) {
-            cut_once(dictionary);
+            segment_once(dictionary);
             _exit(0);
         }
         CHECK(waitpid(child, &status, 0) == child && status == 0);
@@ -227,7 +227,7 @@ static void threads(file system, file user, int forks) {
     pthread_t all[THREADS];
     CHECK(open_images(&dictionary, both, 2, NULL) == KUMQUATSIEVE_OK);
     for (int i = 0; i < THREADS; i++)
-        CHECK(pthread_create(&all[i], NULL, cut_often, dictionary) == 0);
+        CHECK(pthread_create(&all[i], NULL, segment_often, dictionary) == 0);
     fork_often(dictionary, forks);
     for (int i = 0; i < THREADS; i++) CHECK(pthread_join(all[i], NULL) == 0);
     kumquatsieve_dictionary_release(dictionary);
@@ -237,7 +237,7 @@ int main(int given, char **paths) {
     int forks = given == 4 ? atoi(paths[3]) : 0;
     CHECK(given >= 3);
     file system = read_file(paths[1]), user = read_file(paths[2]);
-    refused(system, user);
+    rejected_images(system, user);
     skipped_digests(system, user);
     segmenters(system, user);
     many_users(system, user);

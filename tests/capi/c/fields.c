@@ -18,7 +18,7 @@ static void by_number(kumquatsieve_segmenter *segmenter) {
         const kumquatsieve_word *words = NULL;
         size_t number = 0, length = 0;
         const char *field = "";
-        CHECK(cut(segmenter, FIELDS[i].line) == KUMQUATSIEVE_OK);
+        CHECK(segment_line(segmenter, FIELDS[i].line) == KUMQUATSIEVE_OK);
         CHECK(kumquatsieve_words(segmenter, &words, NULL, NULL) == KUMQUATSIEVE_OK);
         for (; FIELDS[i].fields[number]; number++) {
             CHECK_CASE(FIELDS[i].what, kumquatsieve_field(segmenter, words, number, &field, &length,
@@ -61,7 +61,7 @@ static void by_name(kumquatsieve_segmenter *segmenter) {
         const kumquatsieve_word *words = NULL;
         const char *field = "unset";
         size_t length = 5;
-        CHECK(cut(segmenter, NAMED[i].line) == KUMQUATSIEVE_OK);
+        CHECK(segment_line(segmenter, NAMED[i].line) == KUMQUATSIEVE_OK);
         CHECK(kumquatsieve_words(segmenter, &words, NULL, NULL) == KUMQUATSIEVE_OK);
         CHECK_CASE(NAMED[i].name, kumquatsieve_field_named(segmenter, words, NAMED[i].name, &field,
                                                            &length, NULL) == NAMED[i].code);

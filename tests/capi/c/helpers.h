@@ -40,7 +40,7 @@ static inline bool is_text(const char *bytes, size_t length, const char *text) {
     return length == strlen(text) && memcmp(bytes, text, length) == 0;
 }
 
-static inline uint32_t cut(kumquatsieve_segmenter *segmenter, const char *line) {
+static inline uint32_t segment_line(kumquatsieve_segmenter *segmenter, const char *line) {
     return kumquatsieve_segment(segmenter, line, strlen(line), 0, NULL, NULL);
 }
 
@@ -96,7 +96,8 @@ static inline bool prints(kumquatsieve_segmenter *segmenter, const char *wanted)
 }
 
 /* Whether a line is segmented, and prints this. */
-static inline bool cuts(kumquatsieve_segmenter *segmenter, const char *line, const char *wanted) {
-    return cut(segmenter, line) == KUMQUATSIEVE_OK && prints(segmenter, wanted);
+static inline bool segments_to(kumquatsieve_segmenter *segmenter, const char *line,
+                               const char *wanted) {
+    return segment_line(segmenter, line) == KUMQUATSIEVE_OK && prints(segmenter, wanted);
 }
 #endif

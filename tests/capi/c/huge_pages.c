@@ -8,12 +8,12 @@
 #include <unistd.h>
 
 /* Whether the kernel rejects requests for huge pages. */
-static bool refuses;
+static bool rejects;
 
 int __real_madvise(void *at, size_t length, int advice);
 
 int __wrap_madvise(void *at, size_t length, int advice) {
-    if (!refuses) return __real_madvise(at, length, advice);
+    if (!rejects) return __real_madvise(at, length, advice);
     errno = EINVAL;
     return -1;
 }
@@ -21,7 +21,7 @@ int __wrap_madvise(void *at, size_t length, int advice) {
 /* The memory of this process in kB: the mappings for which huge pages were requested, and how much
    of them is in such pages. */
 typedef struct pages {
-    size_t asked;
+    size_t requested;
     size_t huge;
 } pages;
 
@@ -35,7 +35,7 @@ static pages pages_now(void) {
         sscanf(line, "Size: %zu kB", &size);
         sscanf(line, "AnonHugePages: %zu kB", &huge);
         if (strncmp(line, "VmFlags:", strlen("VmFlags:")) != 0 || !strstr(line, " hg")) continue;
-        found.asked += size;
+        found.requested += size;
         found.huge += huge;
     }
     fclose(maps);
@@ -103,37 +103,39 @@ static const way WAYS[] = {{"copied", copied}, {"read", read_whole}, {"piped", p
 static pages pages_of(const way *by, file image) {
     kumquatsieve_segmenter segmenter = KUMQUATSIEVE_EMPTY;
     CHECK_CASE(by->what, by->load(&segmenter, image) == KUMQUATSIEVE_OK);
-    CHECK_CASE(by->what, cut(&segmenter, LINE) == KUMQUATSIEVE_OK && prints(&segmenter, PRINTED));
+    CHECK_CASE(by->what,
+               segment_line(&segmenter, LINE) == KUMQUATSIEVE_OK && prints(&segmenter, PRINTED));
     pages found = pages_now();
     kumquatsieve_segmenter_close(&segmenter);
-    CHECK_CASE(by->what, pages_now().asked == 0);
+    CHECK_CASE(by->what, pages_now().requested == 0);
     return found;
 }
 
-static void asked_for_the_large_one(file system, file large) {
+static void requested_for_the_large_one(file system, file large) {
     for (size_t i = 0; i < COUNT_OF(WAYS); i++) {
-        CHECK_CASE(WAYS[i].what, pages_of(&WAYS[i], system).asked == 0);
+        CHECK_CASE(WAYS[i].what, pages_of(&WAYS[i], system).requested == 0);
         pages found = pages_of(&WAYS[i], large);
-        CHECK_CASE(WAYS[i].what,
-                   found.asked >= large.length / 1024 && found.asked <= 2 * large.length / 1024);
-        printf("%s%s: %zu of %zu kB", i == 0 ? "" : ", ", WAYS[i].what, found.huge, found.asked);
+        CHECK_CASE(WAYS[i].what, found.requested >= large.length / 1024 &&
+                                     found.requested <= 2 * large.length / 1024);
+        printf("%s%s: %zu of %zu kB", i == 0 ? "" : ", ", WAYS[i].what, found.huge,
+               found.requested);
     }
     puts("");
 }
 
 /* An image is loaded without huge pages too. */
-static void refused(file large) {
-    refuses = true;
+static void rejected(file large) {
+    rejects = true;
     for (size_t i = 0; i < COUNT_OF(WAYS); i++)
-        CHECK_CASE(WAYS[i].what, pages_of(&WAYS[i], large).asked == 0);
-    refuses = false;
+        CHECK_CASE(WAYS[i].what, pages_of(&WAYS[i], large).requested == 0);
+    rejects = false;
 }
 
 int main(int given, char **paths) {
     CHECK(given == 3);
     file system = read_file(paths[1]), large = read_file(paths[2]);
-    asked_for_the_large_one(system, large);
-    refused(large);
+    requested_for_the_large_one(system, large);
+    rejected(large);
     free(system.bytes);
     free(large.bytes);
     return 0;

@@ -3,6 +3,7 @@
    of these calls, and says itself where the library is installed. */
 #define _GNU_SOURCE
 #include "helpers.h"
+#include <errno.h>
 
 /* The prefix, or NULL if memory runs out. */
 static const char *prefix;
@@ -180,34 +181,48 @@ static void check_lists(const char *folder) {
     free(out);
 }
 
-/* The messages of names that no image has: the directories and the names in their order, cut off
-   before a character that does not fit. */
-#define NOWHERE "/d/kumquatsieve, /p/var/lib/kumquatsieve, /p/share/kumquatsieve"
-#define THERE "prefix/var/lib/kumquatsieve, prefix/share/kumquatsieve"
+/* The messages of a name that no image has: the directories and the names in their order.
+   XDG_DATA_HOME is `/`, `zeros` zeros, and `last`. `wanted` is the whole message, or the end of one
+   of `length` bytes. At most 1,023 bytes fit. */
+#define DIRS "/d/kumquatsieve, prefix/var/lib/kumquatsieve, prefix/share/kumquatsieve"
 #define ASCII_NAMES                                                                                \
     "0, 1, 2, 3, 4, 5, 6, 7, 8, 9, all, both, broken, fifo, folder, here, made, own, shared"
-#define FIFTY "12345678901234567890123456789012345678901234567890"
-#define HINT "compile an image with kumquatsieve-import (F1 File)"
 static const struct {
-    const char *data_home, *prefix, *name, *wanted;
+    const char *prefix, *last, *wanted;
+    size_t zeros, length;
 } MESSAGES[] = {
-    {"/d", "/p", "none",
-     "none: no such image; searched " NOWHERE "; available images: none; " HINT},
-    {NULL, "prefix", "none",
-     "none: no such image; searched " THERE "; available images: " ASCII_NAMES ", あ; " HINT},
-    {NULL, "prefix", FIFTY "123456",
-     FIFTY "123456: no such image; searched " THERE "; available images: " ASCII_NAMES
-           ",  (F1 File)"},
+    {"/p", "d",
+     "none: no such image; searched /d/kumquatsieve, /p/var/lib/kumquatsieve, "
+     "/p/share/kumquatsieve; available images: none (F1 File)",
+     0, 0},
+    {"prefix", "d",
+     "none: no such image; searched " DIRS "; available images: " ASCII_NAMES ", あ (F1 File)", 0,
+     0},
+    {"prefix", "", ", shared, あ (F1 File)", 802, 1023},
+    {"prefix", "", ", shared,... (F1 File)", 803, 1023},
+    {"prefix", "", ", shared... (F1 File)", 804, 1023},
+    {"prefix", "ああ", "0あ... (F1 File)", 976, 1023},
+    {"prefix", "ああ", "0あ... (F1 File)", 975, 1022},
+    {"prefix", "ああ", "0あ... (F1 File)", 974, 1021},
 };
 
 static void check_messages(void) {
+    static const char START[] = "none: no such image; searched /";
+    char home[ROOM] = "/";
     kumquatsieve_error error;
     for (size_t i = 0; i < COUNT_OF(MESSAGES); i++) {
+        const char *wanted = MESSAGES[i].wanted;
+        size_t end = strlen(wanted), length = MESSAGES[i].length > 0 ? MESSAGES[i].length : end;
+        memset(home + 1, '0', MESSAGES[i].zeros);
+        strcpy(home + 1 + MESSAGES[i].zeros, MESSAGES[i].last);
+        set_variable("XDG_DATA_HOME", home);
         prefix = MESSAGES[i].prefix;
-        set_variable("XDG_DATA_HOME", MESSAGES[i].data_home);
-        CHECK(kumquatsieve_find_image(MESSAGES[i].name, NULL, 0, NULL, &error) ==
-              KUMQUATSIEVE_FILE);
-        CHECK_CASE(MESSAGES[i].name, strcmp(error.message, MESSAGES[i].wanted) == 0);
+        memset(&error, UNSET, sizeof error);
+        CHECK(kumquatsieve_find_image("none", NULL, 0, NULL, &error) == KUMQUATSIEVE_FILE);
+        CHECK_CASE(wanted, error.number == ENOENT && error.position == 0 && error.image == 0);
+        CHECK_CASE(wanted, strlen(error.message) == length);
+        CHECK_CASE(wanted, strncmp(error.message, START, strlen(START)) == 0);
+        CHECK_CASE(wanted, strcmp(error.message + length - end, wanted) == 0);
     }
 }
 

@@ -174,7 +174,7 @@ static void from_memory(void) {
     sys.bytes[8] = 3;
 }
 
-/* A long path is shown by its end, and a long message is cut off after a character. */
+/* A long path is shown by its end, from the start of a character. */
 static void long_paths(void) {
     char path[3000] = "./";
     kumquatsieve_error error;

@@ -66,7 +66,7 @@ int main(int given, char **paths) {
     kumquatsieve_segmenter segmenter = loaded_with(system, user);
     const kumquatsieve_word *words = NULL;
     size_t count = 0;
-    CHECK(cut(&segmenter, LAYOUT_LINE) == KUMQUATSIEVE_OK);
+    CHECK(segment_line(&segmenter, LAYOUT_LINE) == KUMQUATSIEVE_OK);
     CHECK(kumquatsieve_words(&segmenter, &words, &count, NULL) == KUMQUATSIEVE_OK &&
           count == WORDS);
     check_fields((const uint8_t *)&words[1]);

@@ -53,7 +53,7 @@ static const struct {
 static void printed_lines(kumquatsieve_segmenter *segmenter) {
     for (size_t i = 0; i < COUNT_OF(PRINTED_LINES); i++) {
         const char *line = PRINTED_LINES[i].line;
-        CHECK_CASE(PRINTED_LINES[i].what, cut(segmenter, line) == KUMQUATSIEVE_OK &&
+        CHECK_CASE(PRINTED_LINES[i].what, segment_line(segmenter, line) == KUMQUATSIEVE_OK &&
                                               prints(segmenter, PRINTED_LINES[i].output));
         CHECK_CASE(PRINTED_LINES[i].what, segment(segmenter, line, strlen(line), KUMQUATSIEVE_WHOLE,
                                                   NULL) == KUMQUATSIEVE_OK);
@@ -61,35 +61,35 @@ static void printed_lines(kumquatsieve_segmenter *segmenter) {
     }
 }
 
-static char letters[LONGEST + 1], bad_bytes[LONGEST + 1];
+static char letters[LONGEST + 1], invalid_bytes[LONGEST + 1];
 
 static const struct {
     const char *what;
     const char *bytes;
     size_t length;
     uint32_t as_line, as_text;
-} REFUSED[] = {
+} REJECTED[] = {
     {"a line feed", "も\nも", 7, KUMQUATSIEVE_LINE_FEED, KUMQUATSIEVE_OK},
     {"a line feed alone", "\n", 1, KUMQUATSIEVE_LINE_FEED, KUMQUATSIEVE_OK},
     {"a line feed, then no text", "ab\n\xff", 4, KUMQUATSIEVE_LINE_FEED, KUMQUATSIEVE_NOT_UTF8},
     {"no text", "a\xff", 2, KUMQUATSIEVE_NOT_UTF8, KUMQUATSIEVE_NOT_UTF8},
     {"too long", letters, sizeof letters, KUMQUATSIEVE_TOO_LONG, KUMQUATSIEVE_TOO_LONG},
-    {"too long, no text", bad_bytes, sizeof bad_bytes, KUMQUATSIEVE_TOO_LONG,
+    {"too long, no text", invalid_bytes, sizeof invalid_bytes, KUMQUATSIEVE_TOO_LONG,
      KUMQUATSIEVE_TOO_LONG},
 };
 
-static void refused_texts(kumquatsieve_segmenter *segmenter) {
+static void rejected_texts(kumquatsieve_segmenter *segmenter) {
     memset(letters, 'z', sizeof letters);
-    memset(bad_bytes, 0xff, sizeof bad_bytes);
-    CHECK(cut(segmenter, "もも") == KUMQUATSIEVE_OK);
-    for (size_t i = 0; i < COUNT_OF(REFUSED); i++) {
-        CHECK_CASE(REFUSED[i].what, segment(segmenter, REFUSED[i].bytes, REFUSED[i].length, 0,
-                                            NULL) == REFUSED[i].as_line);
-        if (REFUSED[i].as_text != KUMQUATSIEVE_OK) {
-            CHECK_CASE(REFUSED[i].what, segment(segmenter, REFUSED[i].bytes, REFUSED[i].length,
-                                                KUMQUATSIEVE_WHOLE, NULL) == REFUSED[i].as_text);
+    memset(invalid_bytes, 0xff, sizeof invalid_bytes);
+    CHECK(segment_line(segmenter, "もも") == KUMQUATSIEVE_OK);
+    for (size_t i = 0; i < COUNT_OF(REJECTED); i++) {
+        CHECK_CASE(REJECTED[i].what, segment(segmenter, REJECTED[i].bytes, REJECTED[i].length, 0,
+                                             NULL) == REJECTED[i].as_line);
+        if (REJECTED[i].as_text != KUMQUATSIEVE_OK) {
+            CHECK_CASE(REJECTED[i].what, segment(segmenter, REJECTED[i].bytes, REJECTED[i].length,
+                                                 KUMQUATSIEVE_WHOLE, NULL) == REJECTED[i].as_text);
         }
-        CHECK_CASE(REFUSED[i].what, prints(segmenter, MOMO));
+        CHECK_CASE(REJECTED[i].what, prints(segmenter, MOMO));
     }
     CHECK(segment(segmenter, letters, LONGEST, 0, NULL) == KUMQUATSIEVE_OK);
 }
@@ -143,7 +143,7 @@ static void words_and_features(kumquatsieve_segmenter *segmenter) {
     const kumquatsieve_word *words = NULL, *again = NULL;
     const char *features = NULL, *feature = NULL;
     size_t count = 99, length = 0;
-    CHECK(cut(segmenter, " すもも z") == KUMQUATSIEVE_OK);
+    CHECK(segment_line(segmenter, " すもも z") == KUMQUATSIEVE_OK);
     CHECK(kumquatsieve_words(segmenter, &words, &count, NULL) == KUMQUATSIEVE_OK && count == 2);
     CHECK(kumquatsieve_nodes(segmenter, NULL, NULL, NULL) == KUMQUATSIEVE_OK);
     CHECK(kumquatsieve_words(segmenter, &again, &count, NULL) == KUMQUATSIEVE_OK && again == words);
@@ -155,7 +155,7 @@ static void words_and_features(kumquatsieve_segmenter *segmenter) {
     CHECK(kumquatsieve_features(segmenter, &features, &length, NULL) == KUMQUATSIEVE_OK &&
           is_text(features, length, "名詞,すもも未知"));
     for (size_t i = 0; i < COUNT_OF(WORDS); i++) CHECK(is_word(&words[i], &WORDS[i]));
-    CHECK(cut(segmenter, "   ") == KUMQUATSIEVE_OK &&
+    CHECK(segment_line(segmenter, "   ") == KUMQUATSIEVE_OK &&
           kumquatsieve_features(segmenter, &features, &length, NULL) == KUMQUATSIEVE_OK &&
           length == 0);
     CHECK(kumquatsieve_words(segmenter, &words, &count, NULL) == KUMQUATSIEVE_OK && count == 0);
@@ -172,7 +172,7 @@ static uint32_t print_code(kumquatsieve_segmenter *segmenter) {
 /* Each call that forgets the line, and one that keeps it. */
 static void forgotten(kumquatsieve_segmenter *segmenter) {
     for (int i = 0; i < 5; i++) {
-        CHECK(i == 0 || cut(segmenter, LINE) == KUMQUATSIEVE_OK);
+        CHECK(i == 0 || segment_line(segmenter, LINE) == KUMQUATSIEVE_OK);
         CHECK(i == 0 || words_code(segmenter) == KUMQUATSIEVE_OK);
         if (i == 1) CHECK(kumquatsieve_set_grouping(segmenter, 24, NULL) == KUMQUATSIEVE_OK);
         if (i == 2)
@@ -207,8 +207,9 @@ static const struct {
      "\r\t未知\nEOS\n" PRINTED},
     {"bad UTF-8 in line 3", LINE "\n\na\xff\n" LINE "\n", KUMQUATSIEVE_NOT_UTF8, 3,
      PRINTED "EOS\n"},
-    {"bad UTF-8 behind empty lines", "\n\na\xff\nb\n", KUMQUATSIEVE_NOT_UTF8, 3, "EOS\nEOS\n"},
-    {"bad UTF-8 in a last line behind an empty one", "\n\xff", KUMQUATSIEVE_NOT_UTF8, 2, "EOS\n"},
+    {"invalid UTF-8 after empty lines", "\n\na\xff\nb\n", KUMQUATSIEVE_NOT_UTF8, 3, "EOS\nEOS\n"},
+    {"invalid UTF-8 in a last line after an empty one", "\n\xff", KUMQUATSIEVE_NOT_UTF8, 2,
+     "EOS\n"},
     {"bad UTF-8 in a last line without a line feed", LINE "\na\xff", KUMQUATSIEVE_NOT_UTF8, 2,
      PRINTED},
 };
@@ -240,7 +241,7 @@ int main(int given, char **paths) {
     forgotten(&segmenter);
     sizes_and_costs(&segmenter);
     printed_lines(&segmenter);
-    refused_texts(&segmenter);
+    rejected_texts(&segmenter);
     words_and_features(&segmenter);
     text_lines(&segmenter);
     line_feed_in_a_text(&segmenter);

@@ -22,12 +22,12 @@ static kumquatsieve_dictionary *opened(const char *path, const char *one, uint32
     return dictionary;
 }
 
-static bool dictionary_cuts(kumquatsieve_dictionary *dictionary, const char *wanted) {
+static bool dictionary_segments_to(kumquatsieve_dictionary *dictionary, const char *wanted) {
     kumquatsieve_segmenter segmenter = KUMQUATSIEVE_EMPTY;
     CHECK(kumquatsieve_segmenter_open(&segmenter, dictionary, NULL) == KUMQUATSIEVE_OK);
-    bool is_cut = cuts(&segmenter, LINE, wanted);
+    bool is_printed = segments_to(&segmenter, LINE, wanted);
     kumquatsieve_segmenter_close(&segmenter);
-    return is_cut;
+    return is_printed;
 }
 
 /* Checks that nothing is open or mapped that was not before. */
@@ -46,7 +46,7 @@ static void one_file(void) {
         CHECK_CASE(PATHS[i], mappings_of(SYSTEM) == 1 && open_files() == files_before);
     }
     for (size_t i = 0; i < COUNT_OF(PATHS); i++) {
-        CHECK_CASE(PATHS[i], dictionary_cuts(all[i], PRINTED) && mappings_of(SYSTEM) == 1);
+        CHECK_CASE(PATHS[i], dictionary_segments_to(all[i], PRINTED) && mappings_of(SYSTEM) == 1);
         kumquatsieve_dictionary_release(all[i]);
     }
     CHECK(mappings_of(SYSTEM) == 0);
@@ -80,7 +80,8 @@ static void pairs(void) {
         bool is_copied = PAIRS[i].flags[0] & PAIRS[i].flags[1] & KUMQUATSIEVE_COPY;
         CHECK_CASE(PAIRS[i].what, mappings_of(SYSTEM) == (is_copied ? 0 : 1));
         kumquatsieve_dictionary_release(first);
-        CHECK_CASE(PAIRS[i].what, dictionary_cuts(second, PAIRS[i].users[1] ? USERS : PRINTED));
+        CHECK_CASE(PAIRS[i].what,
+                   dictionary_segments_to(second, PAIRS[i].users[1] ? USERS : PRINTED));
         kumquatsieve_dictionary_release(second);
         check_nothing_left(PAIRS[i].what);
     }
@@ -98,7 +99,7 @@ static void kept(void) {
     kumquatsieve_segmenter_close(&first);
     CHECK(mappings_of(SYSTEM) == 1 && mappings_of(USER) == 1);
     CHECK(kumquatsieve_shrink(&second, NULL) == KUMQUATSIEVE_OK);
-    CHECK(cuts(&second, LINE, USERS) && mappings_of(SYSTEM) == 1);
+    CHECK(segments_to(&second, LINE, USERS) && mappings_of(SYSTEM) == 1);
     kumquatsieve_segmenter_close(&second);
     check_nothing_left("kept");
 }
@@ -113,11 +114,11 @@ static void replaced(void) {
     write_file("new.img", sys.bytes, sys.length);
     memcpy(feature, "名", strlen("名"));
     CHECK(rename("new.img", SYSTEM) == 0 && mappings_of(SYSTEM) == 0 &&
-          dictionary_cuts(before, PRINTED));
+          dictionary_segments_to(before, PRINTED));
     after = opened(SYSTEM, NULL, 0);
     CHECK(after != before && mappings_of(SYSTEM) == 1 && unlink(SYSTEM) == 0);
-    CHECK(dictionary_cuts(before, PRINTED) &&
-          dictionary_cuts(after, "すもも\t名詞,すもも\nもも\t動詞,もも\nEOS\n"));
+    CHECK(dictionary_segments_to(before, PRINTED) &&
+          dictionary_segments_to(after, "すもも\t名詞,すもも\nもも\t動詞,もも\nEOS\n"));
     kumquatsieve_dictionary_release(before);
     kumquatsieve_dictionary_release(after);
     check_nothing_left("replaced");
@@ -142,9 +143,9 @@ static void touched(bool is_state_alone) {
     touch(is_state_alone);
     after = opened(SYSTEM, NULL, 0);
     CHECK(after != before && mappings_of(SYSTEM) == 2);
-    CHECK(dictionary_cuts(before, PRINTED) && dictionary_cuts(after, PRINTED));
+    CHECK(dictionary_segments_to(before, PRINTED) && dictionary_segments_to(after, PRINTED));
     kumquatsieve_dictionary_release(before);
-    CHECK(mappings_of(SYSTEM) == 1 && dictionary_cuts(after, PRINTED));
+    CHECK(mappings_of(SYSTEM) == 1 && dictionary_segments_to(after, PRINTED));
     kumquatsieve_dictionary_release(after);
     check_nothing_left("touched");
 }

@@ -64,7 +64,7 @@ static const lattice_row LATTICES[] = {
          {6, 6, 9, KANJI, 2017, 2022, 1, 1},
      }},
     /* 10 + 20, 30 + 7 + 1000 */
-    {"an unknown word behind a known one",
+    {"an unknown word after a known one",
      "も zz",
      1042,
      2,
@@ -103,8 +103,8 @@ static int has_feature(kumquatsieve_segmenter *segmenter, const kumquatsieve_wor
            is_text(feature, length, wanted);
 }
 
-static size_t cut_nodes(kumquatsieve_segmenter *segmenter, const char *line,
-                        const kumquatsieve_node **nodes, int64_t *best) {
+static size_t segment_to_nodes(kumquatsieve_segmenter *segmenter, const char *line,
+                               const kumquatsieve_node **nodes, int64_t *best) {
     kumquatsieve_line found;
     size_t count = 0;
     CHECK(kumquatsieve_segment(segmenter, line, strlen(line), 0, &found, NULL) == KUMQUATSIEVE_OK);
@@ -119,7 +119,7 @@ static void lattices(kumquatsieve_segmenter *segmenter) {
         const lattice_row *row = &LATTICES[i];
         const kumquatsieve_node *nodes = NULL;
         int64_t best = 99;
-        CHECK_CASE(row->what, cut_nodes(segmenter, row->line, &nodes, &best) == row->count &&
+        CHECK_CASE(row->what, segment_to_nodes(segmenter, row->line, &nodes, &best) == row->count &&
                                   best == row->best);
         for (size_t k = 0; k < row->count; k++) {
             CHECK_CASE(row->what, is_node(&nodes[k], &row->nodes[k]));
@@ -135,10 +135,10 @@ static void many_nodes(kumquatsieve_segmenter *segmenter) {
     const kumquatsieve_node *nodes = NULL, *again = NULL;
     size_t count = 0, all = 0;
     for (size_t i = 0; i < LENGTH; i++) line[i] = "も"[i % 3];
-    CHECK(cut(segmenter, line) == KUMQUATSIEVE_OK);
+    CHECK(segment_line(segmenter, line) == KUMQUATSIEVE_OK);
     CHECK(kumquatsieve_nodes(segmenter, &nodes, &count, NULL) == KUMQUATSIEVE_OK);
     CHECK(count == 2 * (LENGTH / 3) - 1 && nodes[count - 1].word.end == LENGTH);
-    CHECK(cut(segmenter, "東京都") == KUMQUATSIEVE_OK);
+    CHECK(segment_line(segmenter, "東京都") == KUMQUATSIEVE_OK);
     CHECK(kumquatsieve_nodes(segmenter, &again, &all, NULL) == KUMQUATSIEVE_OK && all == 5);
 }
 
@@ -151,11 +151,11 @@ static const struct {
 } ENTRIES[] = {
     {"the system's first", true, 0, 0, "名詞,すもも"},
     {"the system's last", true, 0, 2, "名詞,もも"},
-    {"none behind it", true, 0, 3, ""},
+    {"none after it", true, 0, 3, ""},
     {"the user's", true, 1, 0, "名詞,空白"},
     {"no other of the user's", true, 1, 1, ""},
     {"no other user's", true, 2, 0, ""},
-    {"far behind the users", true, SIZE_MAX, 0, ""},
+    {"far after the users", true, SIZE_MAX, 0, ""},
     {"an unknown entry", false, 0, 5, "未知"},
     {"whatever the dictionary", false, 9, 5, "未知"},
     {"a known one's number", false, 0, 2, ""},
@@ -207,7 +207,7 @@ static void all_paths_agree(kumquatsieve_segmenter *segmenter) {
         const kumquatsieve_node *nodes = NULL;
         const kumquatsieve_word *words = NULL;
         int64_t best = 0, least = INT64_MAX;
-        size_t on_best = 0, many = 0, count = cut_nodes(segmenter, LINES[k], &nodes, &best);
+        size_t on_best = 0, many = 0, count = segment_to_nodes(segmenter, LINES[k], &nodes, &best);
         all_paths paths = {.nodes = nodes, .count = count};
         for (size_t i = 0; i < paths.count; i++) {
             if (nodes[i].word.end > paths.last) paths.last = nodes[i].word.end;

@@ -68,13 +68,13 @@ static void make_others(void) {
 }
 
 /* A file to open, and the code and the number. */
-typedef struct refused_row {
+typedef struct rejected_row {
     const char *what, *path;
     uint32_t flags, code;
     uint64_t number;
-} refused_row;
+} rejected_row;
 
-static const refused_row AS_SYSTEM[] = {
+static const rejected_row AS_SYSTEM[] = {
     {"an unknown bit", "whole.img", 64, KUMQUATSIEVE_BAD_ARGUMENT, 0},
     {"the highest bit", "whole.img", ~(~0u >> 1), KUMQUATSIEVE_BAD_ARGUMENT, 0},
     {"an empty path", "", 0, KUMQUATSIEVE_FILE, ENOENT},
@@ -121,7 +121,7 @@ static const refused_row AS_SYSTEM[] = {
     {"a file that shows no length", "/proc/version", 0, KUMQUATSIEVE_BAD_MAGIC, 0},
 };
 
-static const refused_row AS_USER[] = {
+static const rejected_row AS_USER[] = {
     {"no file", "none.img", 0, KUMQUATSIEVE_FILE, ENOENT},
     {"an unknown bit", "user.img", 16, KUMQUATSIEVE_BAD_ARGUMENT, 0},
     {"a folder", "./folder.img", 0, KUMQUATSIEVE_FILE, EISDIR},
@@ -132,8 +132,8 @@ static const refused_row AS_USER[] = {
 };
 
 /* After an error nothing is open or mapped. */
-static void check_refused(const refused_row *row, const char *path, const char *user,
-                          size_t number) {
+static void check_rejected(const rejected_row *row, const char *path, const char *user,
+                           size_t number) {
     kumquatsieve_dictionary *dictionary = NULL;
     kumquatsieve_error error;
     size_t files = open_files(), maps = mappings_of(NULL), image = user ? 1 : 0;
@@ -146,15 +146,15 @@ static void check_refused(const refused_row *row, const char *path, const char *
                                                        NULL) == row->code);
 }
 
-static void refused_systems(void) {
+static void rejected_systems(void) {
     for (size_t i = 0; i < COUNT_OF(AS_SYSTEM); i++)
-        check_refused(&AS_SYSTEM[i], AS_SYSTEM[i].path, NULL, 0);
+        check_rejected(&AS_SYSTEM[i], AS_SYSTEM[i].path, NULL, 0);
 }
 
-static void refused_users(void) {
+static void rejected_users(void) {
     for (size_t i = 0; i < COUNT_OF(AS_USER); i++)
-        check_refused(&AS_USER[i], "whole.img", AS_USER[i].path,
-                      AS_USER[i].code == KUMQUATSIEVE_BAD_ARGUMENT ? 0 : 1);
+        check_rejected(&AS_USER[i], "whole.img", AS_USER[i].path,
+                       AS_USER[i].code == KUMQUATSIEVE_BAD_ARGUMENT ? 0 : 1);
 }
 
 /* Images that would be rejected, and flags by which they are accepted. */
@@ -174,7 +174,7 @@ static void accepted(void) {
         kumquatsieve_segmenter segmenter = KUMQUATSIEVE_EMPTY;
         CHECK_CASE(ROWS[i].path, open_paths(&segmenter, ROWS[i].path, NULL, ROWS[i].flags, NULL) ==
                                      KUMQUATSIEVE_OK);
-        CHECK_CASE(ROWS[i].path, cuts(&segmenter, LINE, PRINTED));
+        CHECK_CASE(ROWS[i].path, segments_to(&segmenter, LINE, PRINTED));
         kumquatsieve_segmenter_close(&segmenter);
     }
 }
@@ -236,7 +236,7 @@ static void piped(const char *what, size_t more, size_t at, uint32_t code, uint6
                    open_paths(&segmenter, path, NULL, 0, &error) == code && error.number == wanted);
         CHECK(freopen("/dev/null", "r", stdin));
         CHECK_CASE(what, segmenter.held == (code == KUMQUATSIEVE_OK));
-        if (segmenter.held) CHECK_CASE(what, cuts(&segmenter, LINE, PRINTED));
+        if (segmenter.held) CHECK_CASE(what, segments_to(&segmenter, LINE, PRINTED));
         kumquatsieve_segmenter_close(&segmenter);
         CHECK_CASE(what, waitpid(child, &status, 0) == child);
     }
@@ -249,7 +249,7 @@ static void standard_input(void) {
     CHECK(freopen("whole.img", "r", stdin));
     CHECK(open_paths(&segmenter, "/dev/stdin", NULL, 0, NULL) == KUMQUATSIEVE_OK &&
           mappings_of("whole.img") == 1);
-    CHECK(cuts(&segmenter, LINE, PRINTED));
+    CHECK(segments_to(&segmenter, LINE, PRINTED));
     kumquatsieve_segmenter_close(&segmenter);
 }
 
@@ -261,8 +261,8 @@ int main(int given, char **paths) {
     write_file("user.img", user.bytes, user.length);
     make_files();
     make_others();
-    refused_systems();
-    refused_users();
+    rejected_systems();
+    rejected_users();
     accepted();
     unreadable();
     piped("a pipe", 0, 0, KUMQUATSIEVE_OK, 0);
@@ -273,7 +273,7 @@ int main(int given, char **paths) {
     standard_input();
     free(sys.bytes);
     free(user.bytes);
-    printf("opening: %zu files are refused by the calls that open them\n",
+    printf("opening: %zu files are rejected by the calls that open them\n",
            COUNT_OF(AS_SYSTEM) + COUNT_OF(AS_USER));
     return 0;
 }

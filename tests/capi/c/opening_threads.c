@@ -31,7 +31,7 @@ static void open_once(int round) {
     kumquatsieve_segmenter_close(round % 2 ? &first : &second);
     kumquatsieve_segmenter *left = round % 2 ? &second : &first;
     if (round % 3) kumquatsieve_dictionary_release(dictionary);
-    CHECK(cuts(left, LINE, USERS));
+    CHECK(segments_to(left, LINE, USERS));
     kumquatsieve_segmenter_close(left);
     if (round % 3 == 0) kumquatsieve_dictionary_release(dictionary);
 }

@@ -15,12 +15,12 @@ void __real_free(void *block);
 void *__real_mmap(void *at, size_t length, int protection, int flags, int fd, off_t offset);
 int __real_munmap(void *at, size_t length);
 
-static long growths, refused_growth, held;
+static long growths, failing_growth, held;
 
-static int is_refused(void) { return ++growths == refused_growth; }
+static int fails_now(void) { return ++growths == failing_growth; }
 
 void *__wrap_malloc(size_t size) {
-    if (is_refused()) return NULL;
+    if (fails_now()) return NULL;
     void *block = __real_malloc(size);
     held += block != NULL;
     return block;
@@ -28,18 +28,18 @@ void *__wrap_malloc(size_t size) {
 
 void *__wrap_realloc(void *block, size_t size) {
     if (!block) return __wrap_malloc(size);
-    return is_refused() ? NULL : __real_realloc(block, size);
+    return fails_now() ? NULL : __real_realloc(block, size);
 }
 
 void *__wrap_calloc(size_t count, size_t size) {
-    if (is_refused()) return NULL;
+    if (fails_now()) return NULL;
     void *block = __real_calloc(count, size);
     held += block != NULL;
     return block;
 }
 
 char *__wrap_strdup(const char *text) {
-    if (is_refused()) return NULL;
+    if (fails_now()) return NULL;
     char *copy = __real_strdup(text);
     held += copy != NULL;
     return copy;
@@ -52,7 +52,7 @@ void __wrap_free(void *block) {
 
 void *__wrap_mmap(void *at, size_t length, int protection, int flags, int fd, off_t offset) {
     errno = ENOMEM;
-    if (is_refused()) return MAP_FAILED;
+    if (fails_now()) return MAP_FAILED;
     void *mapped = __real_mmap(at, length, protection, flags, fd, offset);
     held += mapped != MAP_FAILED;
     return mapped;
@@ -60,7 +60,7 @@ void *__wrap_mmap(void *at, size_t length, int protection, int flags, int fd, of
 
 void *__wrap_mremap(void *at, size_t length, size_t wanted, int flags) {
     errno = ENOMEM;
-    return is_refused() ? MAP_FAILED : __real_mremap(at, length, wanted, flags);
+    return fails_now() ? MAP_FAILED : __real_mremap(at, length, wanted, flags);
 }
 
 int __wrap_munmap(void *at, size_t length) {
@@ -70,17 +70,17 @@ int __wrap_munmap(void *at, size_t length) {
 
 /* How many calls failed. Each call is repeated until it succeeds. No call returns another error,
    and an output that it would have set is unchanged. */
-static long times_refused;
+static long times_failed;
 
 enum { UNSET = 77, LONGEST = 1048576 };
 
 static bool again(uint32_t code) {
     CHECK(code == KUMQUATSIEVE_OK || code == KUMQUATSIEVE_MEMORY);
-    times_refused += code == KUMQUATSIEVE_MEMORY;
+    times_failed += code == KUMQUATSIEVE_MEMORY;
     return code == KUMQUATSIEVE_MEMORY;
 }
 
-static void ask_line(kumquatsieve_segmenter *segmenter) {
+static void retry_line(kumquatsieve_segmenter *segmenter) {
     kumquatsieve_line line = {.count = UNSET};
     const kumquatsieve_word *words = NULL;
     size_t count = UNSET;
@@ -92,7 +92,7 @@ static void ask_line(kumquatsieve_segmenter *segmenter) {
     CHECK(line.count == 1 && count == 1 && words->end == strlen(LINE));
 }
 
-static void ask_borrowed(kumquatsieve_segmenter *segmenter) {
+static void retry_borrowed(kumquatsieve_segmenter *segmenter) {
     const char *features = NULL, *printed = NULL;
     size_t features_length = UNSET, length = UNSET;
     while (again(kumquatsieve_features(segmenter, &features, &features_length, NULL)))
@@ -103,7 +103,7 @@ static void ask_borrowed(kumquatsieve_segmenter *segmenter) {
 }
 
 /* The nodes are すもも and すもももも at the start, and the three after them. */
-static void ask_nodes(kumquatsieve_segmenter *segmenter) {
+static void retry_nodes(kumquatsieve_segmenter *segmenter) {
     const kumquatsieve_node *nodes = NULL;
     size_t count = UNSET, length = UNSET;
     const char *text = NULL;
@@ -118,7 +118,7 @@ static void ask_nodes(kumquatsieve_segmenter *segmenter) {
 }
 
 /* After a failure the last line is unchanged. */
-static void ask_text(kumquatsieve_segmenter *segmenter) {
+static void retry_text(kumquatsieve_segmenter *segmenter) {
     static const char TEXT[] = "z\n\xff\xed\xa0\xbd\xed\xb8\x80もも";
     kumquatsieve_line line = {.end = 2};
     const kumquatsieve_word *words = NULL;
@@ -131,7 +131,7 @@ static void ask_text(kumquatsieve_segmenter *segmenter) {
     CHECK(count == 2 && words[0].start == 2 && words[1].end == strlen(TEXT));
 }
 
-static void ask_lines(kumquatsieve_segmenter *segmenter) {
+static void retry_lines(kumquatsieve_segmenter *segmenter) {
     static const char TEXT[] = LINE "\n" LINE;
     const char *output = NULL;
     size_t length = UNSET;
@@ -144,7 +144,7 @@ static void ask_lines(kumquatsieve_segmenter *segmenter) {
     while (again(kumquatsieve_set_grouping(segmenter, 3, NULL))) continue;
 }
 
-static void ask_entries(kumquatsieve_dictionary *dictionary) {
+static void retry_entries(kumquatsieve_dictionary *dictionary) {
     kumquatsieve_word word;
     size_t count = UNSET;
     while (again(kumquatsieve_lookup(dictionary, LINE, strlen(LINE), 0, &word, 1, &count, NULL)))
@@ -160,11 +160,11 @@ static void run(file system, file user) {
     while (again(kumquatsieve_dictionary_load(&dictionary, images, 2, 0, NULL))) CHECK(!dictionary);
     while (again(kumquatsieve_segmenter_open(&segmenter, dictionary, NULL)))
         CHECK(!segmenter.held && !segmenter.state);
-    ask_entries(dictionary);
-    ask_line(&segmenter);
-    ask_borrowed(&segmenter);
-    ask_nodes(&segmenter);
-    ask_lines(&segmenter);
+    retry_entries(dictionary);
+    retry_line(&segmenter);
+    retry_borrowed(&segmenter);
+    retry_nodes(&segmenter);
+    retry_lines(&segmenter);
     kumquatsieve_segmenter_close(&segmenter);
     kumquatsieve_dictionary_release(dictionary);
 }
@@ -179,7 +179,7 @@ static void run_text(file system, file user) {
     while (again(kumquatsieve_segmenter_open(&segmenter, dictionary, NULL)))
         CHECK(!segmenter.held && !segmenter.state);
     kumquatsieve_dictionary_release(dictionary);
-    ask_text(&segmenter);
+    retry_text(&segmenter);
     kumquatsieve_segmenter_close(&segmenter);
 }
 
@@ -196,7 +196,7 @@ static void open_twice(file system, file user, uint32_t flags) {
     while (again(kumquatsieve_segmenter_open(&segmenter, other, NULL))) CHECK(!segmenter.held);
     kumquatsieve_dictionary_release(dictionary);
     kumquatsieve_dictionary_release(other);
-    while (again(cut(&segmenter, LINE))) continue;
+    while (again(segment_line(&segmenter, LINE))) continue;
     kumquatsieve_segmenter_close(&segmenter);
 }
 
@@ -207,20 +207,20 @@ static void run_over_copies(file system, file user) { open_twice(system, user, K
 static long growths_of(void (*runs)(file, file), file system, file user) {
     long before = held, first = growths;
     runs(system, user);
-    CHECK(growths > first && held == before && times_refused == 0);
+    CHECK(growths > first && held == before && times_failed == 0);
     return growths - first;
 }
 
 /* Lets each of `all` allocations fail. Returns how many made their call fail. */
-static long refuse_each(void (*runs)(file, file), file system, file user, long all) {
+static long fail_each(void (*runs)(file, file), file system, file user, long all) {
     long before = held, ended = 0;
     for (long n = 1; n <= all; n++) {
-        long was = times_refused;
+        long was = times_failed;
         growths = 0;
-        refused_growth = n;
+        failing_growth = n;
         runs(system, user);
-        refused_growth = 0;
-        ended += times_refused == was + 1;
+        failing_growth = 0;
+        ended += times_failed == was + 1;
         CHECK(held == before);
     }
     return ended;
@@ -233,8 +233,8 @@ int main(int given, char **paths) {
     long counts[COUNT_OF(all)], sum = 0;
     for (size_t i = 0; i < COUNT_OF(all); i++) sum += counts[i] = growths_of(all[i], system, user);
     for (size_t i = 0; i < COUNT_OF(all); i++)
-        CHECK(refuse_each(all[i], system, user, counts[i]) == counts[i]);
-    printf("refused: %ld growths; each one that was refused ended its call, and no block is left\n",
+        CHECK(fail_each(all[i], system, user, counts[i]) == counts[i]);
+    printf("out of memory: %ld allocations failed; each one ended its call, and no block is left\n",
            sum);
     free(system.bytes);
     free(user.bytes);

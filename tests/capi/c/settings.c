@@ -8,13 +8,13 @@
 static void users(file system, file user, file second) {
     const file images[] = {system, user, second};
     kumquatsieve_segmenter segmenter = loaded(system);
-    CHECK(cuts(&segmenter, "もも", MOMO));
+    CHECK(segments_to(&segmenter, "もも", MOMO));
     kumquatsieve_segmenter_close(&segmenter);
     CHECK(load(&segmenter, images, 2, NULL) == KUMQUATSIEVE_OK);
-    CHECK(cuts(&segmenter, "もも", USERS_MOMO));
+    CHECK(segments_to(&segmenter, "もも", USERS_MOMO));
     kumquatsieve_segmenter_close(&segmenter);
     CHECK(load(&segmenter, images, 3, NULL) == KUMQUATSIEVE_OK);
-    CHECK(cuts(&segmenter, "もも", USERS_MOMO));
+    CHECK(segments_to(&segmenter, "もも", USERS_MOMO));
     kumquatsieve_segmenter_close(&segmenter);
 }
 
@@ -22,12 +22,12 @@ static void users_words(file system, file user) {
     kumquatsieve_segmenter segmenter = loaded(system);
     static const char FORMAT[] = "%m/%f[1]/%pc ";
     CHECK(set_texts(&segmenter, FORMAT, FORMAT, "", "%pc\\n") == KUMQUATSIEVE_OK);
-    CHECK(cuts(&segmenter, LINE, "すもも/すもも/110 もも/もも/147 152\n"));
+    CHECK(segments_to(&segmenter, LINE, "すもも/すもも/110 もも/もも/147 152\n"));
     kumquatsieve_segmenter_close(&segmenter);
     segmenter = loaded_with(system, user);
     CHECK(set_texts(&segmenter, FORMAT, FORMAT, "", "%pc\\n") == KUMQUATSIEVE_OK);
-    CHECK(cuts(&segmenter, LINE, "すもも/すもも/110 もも/ユーザ/118 123\n"));
-    CHECK(cuts(&segmenter, "もも", "もも/ユーザ/11 16\n"));
+    CHECK(segments_to(&segmenter, LINE, "すもも/すもも/110 もも/ユーザ/118 123\n"));
+    CHECK(segments_to(&segmenter, "もも", "もも/ユーザ/11 16\n"));
     kumquatsieve_segmenter_close(&segmenter);
 }
 
@@ -37,14 +37,14 @@ static void sharing(file system) {
     kumquatsieve_segmenter first = KUMQUATSIEVE_EMPTY, second = KUMQUATSIEVE_EMPTY;
     CHECK(open_images(&dictionary, &system, 1, NULL) == KUMQUATSIEVE_OK);
     CHECK(kumquatsieve_segmenter_open(&first, dictionary, NULL) == KUMQUATSIEVE_OK);
-    CHECK(cuts(&first, "もも", MOMO));
+    CHECK(segments_to(&first, "もも", MOMO));
     CHECK(kumquatsieve_segmenter_open(&second, dictionary, NULL) == KUMQUATSIEVE_OK);
     kumquatsieve_dictionary_release(dictionary);
-    CHECK(!prints(&second, MOMO) && cuts(&second, "すもも", "すもも\t名詞,すもも\nEOS\n"));
+    CHECK(!prints(&second, MOMO) && segments_to(&second, "すもも", "すもも\t名詞,すもも\nEOS\n"));
     CHECK(prints(&first, MOMO) && set_texts(&second, "%m ", NULL, "", "") == KUMQUATSIEVE_OK);
     CHECK(prints(&second, "すもも ") && prints(&first, MOMO));
     kumquatsieve_segmenter_close(&first);
-    CHECK(cuts(&second, "もも", "もも "));
+    CHECK(segments_to(&second, "もも", "もも "));
     kumquatsieve_segmenter_close(&second);
 }
 
@@ -70,9 +70,9 @@ static uint32_t set_format(kumquatsieve_segmenter *segmenter, const char *const 
     return kumquatsieve_set_format(segmenter, texts[0], texts[1], texts[2], texts[3], error);
 }
 
-static void refused_formats(file system) {
+static void rejected_formats(file system) {
     kumquatsieve_segmenter segmenter = loaded(system);
-    CHECK(cut(&segmenter, "もも") == KUMQUATSIEVE_OK);
+    CHECK(segment_line(&segmenter, "もも") == KUMQUATSIEVE_OK);
     for (size_t i = 0; i < COUNT_OF(REFUSED_FORMATS); i++) {
         kumquatsieve_error error;
         CHECK_CASE(REFUSED_FORMATS[i].what, set_format(&segmenter, REFUSED_FORMATS[i].texts,
@@ -97,13 +97,13 @@ static const struct {
 
 static void formats(file system) {
     kumquatsieve_segmenter segmenter = loaded(system);
-    CHECK(cut(&segmenter, "もz") == KUMQUATSIEVE_OK);
+    CHECK(segment_line(&segmenter, "もz") == KUMQUATSIEVE_OK);
     for (size_t i = 0; i < COUNT_OF(FORMATS); i++) {
         CHECK_CASE(FORMATS[i].what,
                    set_format(&segmenter, FORMATS[i].texts, NULL) == KUMQUATSIEVE_OK);
         CHECK_CASE(FORMATS[i].what, prints(&segmenter, FORMATS[i].output));
     }
-    CHECK(cut(&segmenter, LINE) == KUMQUATSIEVE_OK);
+    CHECK(segment_line(&segmenter, LINE) == KUMQUATSIEVE_OK);
     CHECK(set_texts(&segmenter, "%m ", "%m ", "", "\\n") == KUMQUATSIEVE_OK &&
           prints(&segmenter, "すもも もも \n"));
     CHECK(set_texts(&segmenter, "%m", "%m", "", "x\\q") == KUMQUATSIEVE_BAD_ESCAPE &&
@@ -135,7 +135,7 @@ static void groupings(file system) {
             CHECK_CASE(GROUPINGS[i].what, kumquatsieve_print(&segmenter, NULL, NULL, NULL) ==
                                               KUMQUATSIEVE_NOTHING_SEGMENTED);
         }
-        CHECK_CASE(GROUPINGS[i].what, cut(&segmenter, "zzz") == KUMQUATSIEVE_OK &&
+        CHECK_CASE(GROUPINGS[i].what, segment_line(&segmenter, "zzz") == KUMQUATSIEVE_OK &&
                                           prints(&segmenter, GROUPINGS[i].output));
     }
     CHECK(kumquatsieve_set_grouping(&segmenter, 1001, NULL) == KUMQUATSIEVE_BAD_GROUPING &&
@@ -149,7 +149,7 @@ int main(int given, char **paths) {
     users(system, user, second);
     users_words(system, user);
     sharing(system);
-    refused_formats(system);
+    rejected_formats(system);
     formats(system);
     groupings(system);
     free(system.bytes);

@@ -153,14 +153,14 @@ static void mixed(kumquatsieve_segmenter *segmenter) {
     const char *text = "\xff\n\xffもも", *features = NULL;
     size_t count = 0, length = strlen(text);
     CHECK(kumquatsieve_segment_text(segmenter, text, length, 2, 0, NULL, NULL) == KUMQUATSIEVE_OK);
-    CHECK(cut(segmenter, "\xff") == KUMQUATSIEVE_NOT_UTF8);
+    CHECK(segment_line(segmenter, "\xff") == KUMQUATSIEVE_NOT_UTF8);
     CHECK(kumquatsieve_words(segmenter, &words, &count, NULL) == KUMQUATSIEVE_OK && count == 2 &&
           words[0].start == 2 && words[1].start == 3 && words[1].end == length);
     CHECK(kumquatsieve_nodes(segmenter, &nodes, &count, NULL) == KUMQUATSIEVE_OK && count == 4 &&
           nodes[0].word.end == 3 && nodes[3].word.start == 6 && nodes[3].word.end == length);
     CHECK(kumquatsieve_features(segmenter, &features, &count, NULL) == KUMQUATSIEVE_OK &&
           is_text(features + words[1].feature_offset, words[1].feature_length, "名詞,もも"));
-    CHECK(cut(segmenter, "もも") == KUMQUATSIEVE_OK);
+    CHECK(segment_line(segmenter, "もも") == KUMQUATSIEVE_OK);
     CHECK(kumquatsieve_words(segmenter, &words, &count, NULL) == KUMQUATSIEVE_OK && count == 1 &&
           words[0].start == 0 && words[0].end == 6 && words[0].feature_offset == 0);
 }
@@ -177,7 +177,7 @@ static void shrunk(kumquatsieve_segmenter *segmenter) {
     CHECK(kumquatsieve_shrink(segmenter, NULL) == KUMQUATSIEVE_OK);
     size_t after = mallinfo2().uordblks + mallinfo2().hblkhd;
     CHECK(kumquatsieve_words(segmenter, NULL, NULL, NULL) == KUMQUATSIEVE_NOTHING_SEGMENTED);
-    CHECK(cuts(segmenter, "もzzz", "も|z|zz|"));
+    CHECK(segments_to(segmenter, "もzzz", "も|z|zz|"));
     if (most > before) CHECK(most - before > (16u << 20) && after <= before + (1u << 20));
     free(text);
 }
@@ -186,11 +186,11 @@ static void shrunk(kumquatsieve_segmenter *segmenter) {
 static void moved(kumquatsieve_segmenter *segmenter) {
     kumquatsieve_segmenter *other = malloc(sizeof *other);
     CHECK(other && set_texts(segmenter, NULL, NULL, NULL, NULL) == KUMQUATSIEVE_OK);
-    CHECK(cut(segmenter, LINE) == KUMQUATSIEVE_OK);
+    CHECK(segment_line(segmenter, LINE) == KUMQUATSIEVE_OK);
     memcpy(other, segmenter, sizeof *other);
     memset(segmenter, 0, sizeof *segmenter);
-    CHECK(prints(other, PRINTED) && cuts(other, "もも", MOMO));
-    CHECK(cut(segmenter, LINE) == KUMQUATSIEVE_EMPTY_SEGMENTER);
+    CHECK(prints(other, PRINTED) && segments_to(other, "もも", MOMO));
+    CHECK(segment_line(segmenter, LINE) == KUMQUATSIEVE_EMPTY_SEGMENTER);
     kumquatsieve_segmenter_close(other);
     free(other);
 }

@@ -17,7 +17,7 @@ static void append(work *own, const char *text, size_t length) {
     own->length += length;
 }
 
-static void *cut_all(void *given) {
+static void *segment_all(void *given) {
     work *own = given;
     const char *text = NULL, *line = (const char *)own->lines.bytes,
                *end = line + own->lines.length;
@@ -48,7 +48,7 @@ int main(int given, char **paths) {
     }
     kumquatsieve_dictionary_release(dictionary);
     for (int i = 0; i < THREADS; i++)
-        CHECK(pthread_create(&threads[i], NULL, cut_all, &all[i]) == 0);
+        CHECK(pthread_create(&threads[i], NULL, segment_all, &all[i]) == 0);
     for (int i = 0; i < THREADS; i++) CHECK(pthread_join(threads[i], NULL) == 0);
     for (int i = 1; i < THREADS; i++)
         CHECK(all[i].length == all[0].length && memcmp(all[i].out, all[0].out, all[0].length) == 0);

@@ -8,7 +8,7 @@ from typing import NamedTuple, Sequence
 from capi.cases.images import large_image, named_image, quoted_image, user_image
 from capi.cases.library import COPIES, FILES, READ_FILES, THREAD_SANITIZER, VALGRIND, WHOLE_FILES
 from capi.cases.library import Library, report, show, show_threads
-from cli.cases.images import OTHER_SIZES, REFUSED
+from cli.cases.images import OTHER_SIZES, REJECTED
 from support.running import run
 
 HUGE_PAGES = Path("/sys/kernel/mm/transparent_hugepage/enabled")
@@ -81,7 +81,7 @@ def check_rejected_images(library: Library, system: Path) -> None:
 
     An image of other sizes is valid, so as the system's it is an image of a user.
     """
-    rows = [(image, error, error) for image, error in REFUSED]
+    rows = [(image, error, error) for image, error in REJECTED]
     rows += [(image, "O1 NotSystem", "O3 OtherSizes 0") for image in OTHER_SIZES.values()]
     paths = [library.folder / f"rejected{number}.img" for number in range(len(rows))]
     for path, (image, _, _) in zip(paths, rows):
@@ -101,7 +101,9 @@ def check_huge_pages(library: Library, system: Path) -> list[str]:
         return ["huge pages, which the kernel does not have"]
     program = library.test("huge_pages", "-Wl,--wrap=madvise")
     sizes = run([program, system, large_image(system)]).decode().rstrip("\n")
-    report(f"only a large image asks for huge pages; in them, by each way to load it: {sizes}")
+    report(
+        f"huge pages are requested only for a large image; in them, by each way to load it: {sizes}"
+    )
     if all(int(kilobytes) > 0 for kilobytes in re.findall("([0-9]+) of", sizes)):
         return []
     return [f"huge pages: the kernel gives none: {HUGE_PAGES} is {HUGE_PAGES.read_text().strip()}"]

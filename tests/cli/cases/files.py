@@ -105,8 +105,8 @@ def quoted(path: str) -> str:
 
 CASES = [
     *(
-        Case(what, command, "も\n", err=f"{told}: F1 File", status=3, files={told: there})
-        for what, command, told, there in READ
+        Case(what, command, "も\n", err=f"{printed}: F1 File", status=3, files={printed: there})
+        for what, command, printed, there in READ
     ),
     *(
         Case(
@@ -116,13 +116,13 @@ CASES = [
     ),
     *(
         Case(
-            f"{told} is refused, {command}",
+            f"{printed} is rejected, {command}",
             command,
-            err=f"{told}: F1 File",
+            err=f"{printed}: F1 File",
             status=3,
-            modes={told: mode},
+            modes={printed: mode},
         )
-        for command, told, mode in DENIED_PATHS
+        for command, printed, mode in DENIED_PATHS
     ),
     Case(
         "files before the directory",
@@ -217,11 +217,11 @@ CASES = [
     ),
     *(
         Case(
-            f"a path with controls, {told}",
+            f"a path with controls, {printed}",
             f"jseg -d {quoted(path)}",
-            err=f"{told}: F1 File",
+            err=f"{printed}: F1 File",
             status=3,
         )
-        for path, told in CONTROLS
+        for path, printed in CONTROLS
     ),
 ]

@@ -152,12 +152,12 @@ REJECTED: List[Tuple[str, str, str, int, Variables, Files]] = [
     ),
 ]
 
-LOOKED = (
+SEARCHED_DIRS = (
     "searched PREFIX/var/lib/kumquatsieve\n"
     "jseg: searched PREFIX/share/kumquatsieve\n"
     "jseg: available images: "
 )
-THERE = f"jseg: {LOOKED}both, installed, made\n"
+THERE = f"jseg: {SEARCHED_DIRS}both, installed, made\n"
 NOWHERE = "jseg: x: no such file or directory\njseg: x: F1 File\n"
 MANY = {f"{number:02}": b"" for number in range(19)}
 
@@ -171,7 +171,7 @@ def searched(
 ) -> Case:
     """Returns a run with a name that is not found. `lines` are the last lines of standard error."""
     return Case(
-        f"where it was looked for: {command}",
+        f"the directories that were searched: {command}",
         command,
         err=Has("", (lines,), lacks),
         status=3,
@@ -191,7 +191,7 @@ SEARCHED = [
     searched(
         "jseg -v -d x",
         f"{NOWHERE}jseg: searched HERE/data/kumquatsieve\n"
-        f"jseg: {LOOKED}{', '.join(MANY)}, a and 3 more\n",
+        f"jseg: {SEARCHED_DIRS}{', '.join(MANY)}, a and 3 more\n",
         DATA,
         user_images(**MANY, a=b""),
     ),
@@ -208,7 +208,7 @@ SEARCHED = [
     ),
     searched(
         "bare-jseg -v -d x",
-        f"{NOWHERE}jseg: {LOOKED}none; install one with kumquatsieve-import\n".replace(
+        f"{NOWHERE}jseg: {SEARCHED_DIRS}none; install one with kumquatsieve-import\n".replace(
             "PREFIX", "PREFIX/bare"
         ),
     ),
@@ -216,7 +216,7 @@ SEARCHED = [
         "jseg -d x", "jseg: x: F1 File\n", lacks=("searched", "available images", "no such file")
     ),
     Case(
-        "where it was looked for, on a terminal",
+        "the directories that were searched, on a terminal",
         "jseg -d x",
         err=Has(NOWHERE + THERE, (" --explain F1' ",)),
         status=3,

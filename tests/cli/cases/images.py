@@ -39,7 +39,7 @@ def with_digest(image: bytes) -> bytes:
 
 LAYOUT_3 = with_digest(LAYOUT_2)
 
-REFUSED = [
+REJECTED = [
     # (image, error)
     (LAYOUT_1[:136], "L1 Truncated"),
     (LAYOUT_3[:960], "L1 Truncated"),
@@ -107,7 +107,7 @@ ENDLESS = [
 ]
 OLDER = {"1.img": LAYOUT_1, "2.img": LAYOUT_2, "3.img": LAYOUT_3}
 
-CASES = [run for row in REFUSED for run in rejected(*row)] + [
+CASES = [run for row in REJECTED for run in rejected(*row)] + [
     Case("layout 1", "jseg -d sys.img -u 1.img", "もも\n", "もも\tX\nEOS\n", files=OLDER),
     Case("layout 2", "jseg -d sys.img -u 2.img", "a\n", "a\tX\nEOS\n", files=OLDER),
     Case("layout 3", "jseg -d sys.img -u 3.img", "a\n", "a\tX\nEOS\n", files=OLDER),

@@ -119,7 +119,7 @@ SLOW_LOADS: List[Tuple[str, str, Conditions, Union[str, bytes], Files, str, str,
         "/dev/stdin: O1 NotSystem",
     ),
     (
-        "an image whose ids are asked for",
+        "an image of dictc ids",
         "dictc ids --dic /dev/stdin X",
         BY_PIPE,
         LAYOUT_3,

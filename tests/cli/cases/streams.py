@@ -131,11 +131,12 @@ CASES = [
         for what, conditions in DEVICES
     ),
     Case(
-        "no fault can be told", "jseg -d none.img", status=3, conditions=Conditions(stderr="full")
+        "no error can be printed",
+        "jseg -d none.img",
+        status=3,
+        conditions=Conditions(stderr="full"),
     ),
-    Case(
-        "no wrong command line can be told", "jseg", status=2, conditions=Conditions(stderr="full")
-    ),
+    Case("no usage error can be printed", "jseg", status=2, conditions=Conditions(stderr="full")),
     Case(
         "no memory to compile",
         ALL,

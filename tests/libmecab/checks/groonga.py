@@ -34,9 +34,9 @@ def groonga_output(context: Context) -> bytes:
     commands += [f"tokenize TokenMecab {quoted(text)} NormalizerAuto\n" for text in texts]
     commands += [f"{SELECT.format(quoted(word))} --output_columns _id\n" for word in words]
     text = "".join(commands).encode()
-    answers = context.run(["groonga", "-n", new_database(context)], text).decode().splitlines()
+    responses = context.run(["groonga", "-n", new_database(context)], text).decode().splitlines()
     # The first item of a response has its times.
-    bodies = [json.dumps(json.loads(answer)[1:], ensure_ascii=False) for answer in answers]
+    bodies = [json.dumps(json.loads(response)[1:], ensure_ascii=False) for response in responses]
     return "\n".join(bodies).encode()
 
 

@@ -41,18 +41,18 @@ public class OneTagger {
         Model model = new Model("-d " + words[0]);
         Tagger tagger = model.createTagger();
         List<String> lines = Files.readAllLines(Path.of(words[1]));
-        String[] answers = new String[THREADS];
+        String[] results = new String[THREADS];
         List<Thread> threads = new ArrayList<>();
         for (int i = 0; i < THREADS; i++) {
             int number = i;
-            Thread thread = new Thread(() -> answers[number] = parsed(tagger, lines));
+            Thread thread = new Thread(() -> results[number] = parsed(tagger, lines));
             threads.add(thread);
             thread.start();
         }
         PrintStream out = new PrintStream(System.out, false, StandardCharsets.UTF_8);
         for (int i = 0; i < THREADS; i++) {
             threads.get(i).join();
-            out.print(answers[i]);
+            out.print(results[i]);
         }
         String past = tagger.parse("😀と𠮟る");
         out.println(past != null && past.endsWith("EOS\n"));

@@ -15,36 +15,37 @@ static char *words(const char *more) {
     return line;
 }
 
-static void told(const char *what, const char *text) {
+static void print_text(const char *what, const char *text) {
     printf("%s: %s\n", what, text ? text : "NULL");
 }
 
-static void told_number(const char *what, long number) { printf("%s: %ld\n", what, number); }
+static void print_number(const char *what, long number) { printf("%s: %ld\n", what, number); }
 
 static void empty_lattices(void) {
     mecab_lattice_t *lattice = mecab_lattice_new();
-    told_number("request type of a new lattice", mecab_lattice_get_request_type(lattice));
-    told_number("theta of a new lattice, in hundredths",
-                (long)(100 * mecab_lattice_get_theta(lattice)));
-    told_number("is available", mecab_lattice_is_available(lattice));
-    told("sentence", mecab_lattice_get_sentence(lattice));
-    told_number("size", (long)mecab_lattice_get_size(lattice));
+    print_number("request type of a new lattice", mecab_lattice_get_request_type(lattice));
+    print_number("theta of a new lattice, in hundredths",
+                 (long)(100 * mecab_lattice_get_theta(lattice)));
+    print_number("is available", mecab_lattice_is_available(lattice));
+    print_text("sentence", mecab_lattice_get_sentence(lattice));
+    print_number("size", (long)mecab_lattice_get_size(lattice));
     mecab_lattice_set_theta(lattice, 0.5);
     mecab_lattice_set_z(lattice, 2);
     mecab_lattice_set_sentence(lattice, LINE);
-    told_number("theta after a sentence was set", (long)(100 * mecab_lattice_get_theta(lattice)));
-    told_number("Z after a sentence was set", (long)mecab_lattice_get_z(lattice));
-    told_number("is available before it is parsed", mecab_lattice_is_available(lattice));
-    told_number("has a beginning before it is parsed", mecab_lattice_get_bos_node(lattice) != NULL);
-    told_number("has an end before it is parsed", mecab_lattice_get_eos_node(lattice) != NULL);
+    print_number("theta after a sentence was set", (long)(100 * mecab_lattice_get_theta(lattice)));
+    print_number("Z after a sentence was set", (long)mecab_lattice_get_z(lattice));
+    print_number("is available before it is parsed", mecab_lattice_is_available(lattice));
+    print_number("has a beginning before it is parsed",
+                 mecab_lattice_get_bos_node(lattice) != NULL);
+    print_number("has an end before it is parsed", mecab_lattice_get_eos_node(lattice) != NULL);
     mecab_lattice_add_request_type(lattice, MECAB_ALLOCATE_SENTENCE);
-    told_number("has a request type",
-                mecab_lattice_has_request_type(lattice, MECAB_ALLOCATE_SENTENCE));
+    print_number("has a request type",
+                 mecab_lattice_has_request_type(lattice, MECAB_ALLOCATE_SENTENCE));
     mecab_lattice_remove_request_type(lattice, MECAB_ALLOCATE_SENTENCE);
-    told_number("has a request type that was removed",
-                mecab_lattice_has_request_type(lattice, MECAB_ALLOCATE_SENTENCE));
+    print_number("has a request type that was removed",
+                 mecab_lattice_has_request_type(lattice, MECAB_ALLOCATE_SENTENCE));
     mecab_lattice_clear(lattice);
-    told_number("is available after it was cleared", mecab_lattice_is_available(lattice));
+    print_number("is available after it was cleared", mecab_lattice_is_available(lattice));
     mecab_lattice_destroy(lattice);
 }
 
@@ -57,25 +58,25 @@ static void formats_of_lattices(void) {
             *wakati_tagger = mecab_model_new_tagger(wakati);
     mecab_lattice_t *own = mecab_lattice_new(), *of_wakati = mecab_model_new_lattice(wakati);
     mecab_lattice_set_sentence(own, LINE);
-    told_number("no lattice is parsed", mecab_parse_lattice(tagger, NULL));
-    told_number("a lattice of no model, by a tagger of wakati",
-                mecab_parse_lattice(wakati_tagger, own));
-    told("its text", mecab_lattice_tostr(own));
+    print_number("no lattice is parsed", mecab_parse_lattice(tagger, NULL));
+    print_number("a lattice of no model, by a tagger of wakati",
+                 mecab_parse_lattice(wakati_tagger, own));
+    print_text("its text", mecab_lattice_tostr(own));
     mecab_lattice_set_sentence(of_wakati, LINE);
-    told_number("a lattice of wakati, by another tagger", mecab_parse_lattice(tagger, of_wakati));
-    told("its text", mecab_lattice_tostr(of_wakati));
-    told("its text again", mecab_lattice_tostr(of_wakati));
+    print_number("a lattice of wakati, by another tagger", mecab_parse_lattice(tagger, of_wakati));
+    print_text("its text", mecab_lattice_tostr(of_wakati));
+    print_text("its text again", mecab_lattice_tostr(of_wakati));
     mecab_set_partial(tagger, 5);
-    told_number("partial", mecab_get_partial(tagger));
+    print_number("partial", mecab_get_partial(tagger));
     mecab_lattice_set_sentence(own, LINE);
-    told_number("what a tagger is asked for is not asked of other lattices",
-                mecab_parse_lattice(tagger, own));
+    print_number("the request type of a tagger is not that of other lattices",
+                 mecab_parse_lattice(tagger, own));
     mecab_set_partial(tagger, 0);
-    told_number("not partial", mecab_get_partial(tagger));
+    print_number("not partial", mecab_get_partial(tagger));
     mecab_lattice_clear(own);
-    told_number("a cleared lattice", mecab_parse_lattice(tagger, own));
-    told_number("a swap", mecab_model_swap(model, wakati));
-    told("the format stays after a swap", mecab_sparse_tostr(tagger, LINE));
+    print_number("a cleared lattice", mecab_parse_lattice(tagger, own));
+    print_number("a swap", mecab_model_swap(model, wakati));
+    print_text("the format stays after a swap", mecab_sparse_tostr(tagger, LINE));
     mecab_lattice_destroy(of_wakati);
     mecab_lattice_destroy(own);
     mecab_destroy(wakati_tagger);
@@ -86,23 +87,23 @@ static void formats_of_lattices(void) {
 static void settings_of_taggers(void) {
     mecab_t *tagger = mecab_new2(words(""));
     char out[8];
-    told_number("theta, in hundredths", (long)(100 * mecab_get_theta(tagger)));
-    told_number("level", mecab_get_lattice_level(tagger));
+    print_number("theta, in hundredths", (long)(100 * mecab_get_theta(tagger)));
+    print_number("level", mecab_get_lattice_level(tagger));
     mecab_set_all_morphs(tagger, 7);
-    told_number("all morphs", mecab_get_all_morphs(tagger));
+    print_number("all morphs", mecab_get_all_morphs(tagger));
     mecab_set_all_morphs(tagger, 0);
     mecab_set_lattice_level(tagger, 1);
-    told_number("level 1", mecab_get_lattice_level(tagger));
+    print_number("level 1", mecab_get_lattice_level(tagger));
     mecab_set_lattice_level(tagger, 2);
-    told_number("level 2", mecab_get_lattice_level(tagger));
+    print_number("level 2", mecab_get_lattice_level(tagger));
     mecab_destroy(tagger);
     tagger = mecab_new2(words(""));
-    told("a short buffer", mecab_sparse_tostr3(tagger, LINE, strlen(LINE), out, sizeof out));
-    told("its fault", mecab_strerror(tagger));
+    print_text("a short buffer", mecab_sparse_tostr3(tagger, LINE, strlen(LINE), out, sizeof out));
+    print_text("its error", mecab_strerror(tagger));
     mecab_destroy(tagger);
-    told_number("a tagger with no value for an option", mecab_new2(words("-F")) != NULL);
-    told_number("a tagger with a value for none", mecab_new2(words("-Cx")) != NULL);
-    told_number("a tagger with an unknown option", mecab_new2(words("--nosuch")) != NULL);
+    print_number("a tagger with no value for an option", mecab_new2(words("-F")) != NULL);
+    print_number("a tagger with a value for none", mecab_new2(words("-Cx")) != NULL);
+    print_number("a tagger with an unknown option", mecab_new2(words("--nosuch")) != NULL);
 }
 
 static void options_and_sentences(void) {
@@ -128,9 +129,9 @@ static void options_and_sentences(void) {
     static const char *const SENTENCES[] = {"", " \t ", LINE, "a  すもも   ", "a b\n\nc  "};
     for (size_t i = 0; i < sizeof OPTIONS / sizeof *OPTIONS; i++) {
         mecab_t *tagger = mecab_new2(words(OPTIONS[i]));
-        told("options", OPTIONS[i]);
+        print_text("options", OPTIONS[i]);
         for (size_t k = 0; tagger && k < sizeof SENTENCES / sizeof *SENTENCES; k++)
-            told("text", mecab_sparse_tostr(tagger, SENTENCES[k]));
+            print_text("text", mecab_sparse_tostr(tagger, SENTENCES[k]));
         mecab_destroy(tagger);
     }
 }
@@ -145,7 +146,7 @@ static void nodes(void) {
                node->isbest);
         printf("%d %ld %g %g %g\n", node->wcost, node->cost, node->alpha, node->beta, node->prob);
     }
-    told_number("nodes of an empty sentence", mecab_sparse_tonode(tagger, "")->next->stat);
+    print_number("nodes of an empty sentence", mecab_sparse_tonode(tagger, "")->next->stat);
     mecab_destroy(tagger);
 }
 

@@ -74,7 +74,7 @@ def print_rejected() -> None:
         try:
             make(options)
         except RuntimeError:
-            print(options, "is refused")
+            print(options, "is rejected")
 
 
 def print_requests() -> None:

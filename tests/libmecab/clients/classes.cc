@@ -203,6 +203,6 @@ int main(int given, char **paths) {
     what_lattices_lack(tagger);
     models();
     delete tagger;
-    std::puts("classes: each function answers as the call that it stands over");
+    std::puts("classes: each function returns what the call that it wraps returns");
     return 0;
 }

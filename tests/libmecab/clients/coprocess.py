@@ -12,7 +12,7 @@ LINES = ["すもももももももものうち", "", "東京都に住む", "a b"
 SECONDS = 10
 
 
-def answer(pipe: IO[bytes]) -> Optional[bytes]:
+def read_result(pipe: IO[bytes]) -> Optional[bytes]:
     """Returns what comes until EOS, or None if it takes too long or the pipe is closed."""
     text = b""
     while not text.endswith(b"EOS\n"):
@@ -31,10 +31,10 @@ def main() -> None:
     for line in LINES:
         mecab.stdin.write(line.encode() + b"\n")
         mecab.stdin.flush()
-        text = answer(mecab.stdout)
+        text = read_result(mecab.stdout)
         if text is None:
             mecab.kill()
-            sys.exit(f"no answer to {line!r}")
+            sys.exit(f"no response to {line!r}")
         sys.stdout.buffer.write(text)
     mecab.stdin.write("終わり".encode())
     mecab.stdin.close()

@@ -9,7 +9,7 @@
 
 static const char *const SENTENCES[] = {"すもももももももものうち", "東京都に住む", " a b ", ""};
 
-static int tell_first_of_several(mecab_t *tagger) {
+static int print_first_of_several(mecab_t *tagger) {
     for (size_t i = 0; i < sizeof SENTENCES / sizeof *SENTENCES; i++) {
         const char *text = mecab_nbest_sparse_tostr(tagger, 1, SENTENCES[i]);
         if (!text) return 0;
@@ -18,7 +18,7 @@ static int tell_first_of_several(mecab_t *tagger) {
     return 1;
 }
 
-static int tell(mecab_t *tagger, const char *line) {
+static int print_line(mecab_t *tagger, const char *line) {
     const char *text = mecab_sparse_tostr(tagger, line);
     if (!text) return 0;
     printf("%s|", text);
@@ -32,19 +32,19 @@ static int tell(mecab_t *tagger, const char *line) {
 int main(int given, char **words) {
     char options[4096], *line = NULL;
     size_t room = 0;
-    int told = 1;
+    int is_printed = 1;
     FILE *file = given == 4 ? fopen(words[3], "r") : NULL;
     if (!file) return 2;
     snprintf(options, sizeof options, "-d %s -O %s", words[1], words[2]);
     mecab_t *tagger = mecab_new2(options);
     if (!tagger) return 1;
-    while (told && getline(&line, &room, file) > 0) {
+    while (is_printed && getline(&line, &room, file) > 0) {
         line[strcspn(line, "\n")] = '\0';
-        told = tell(tagger, line);
+        is_printed = print_line(tagger, line);
     }
-    told = told && tell_first_of_several(tagger);
+    is_printed = is_printed && print_first_of_several(tagger);
     free(line);
     fclose(file);
     mecab_destroy(tagger);
-    return told ? 0 : 1;
+    return is_printed ? 0 : 1;
 }

@@ -9,12 +9,12 @@ enum { PATHS = 3 };
 
 static const char SENTENCE[] = "太郎は次郎が持っている本を花子に渡した。";
 
-static int refused(const char *why) {
+static int report_rejection(const char *why) {
     printf("refused: %s\n", why);
     return 1;
 }
 
-static void tell_node(const mecab_node_t *node) {
+static void print_node(const mecab_node_t *node) {
     if (node->stat == MECAB_BOS_NODE)
         printf("BOS");
     else if (node->stat == MECAB_EOS_NODE)
@@ -36,11 +36,11 @@ static void print_dictionaries(const mecab_dictionary_info_t *info) {
 
 static int with_tagger(mecab_t *tagger) {
     const char *text = mecab_sparse_tostr(tagger, SENTENCE);
-    if (!text) return refused(mecab_strerror(tagger));
+    if (!text) return report_rejection(mecab_strerror(tagger));
     printf("INPUT: %s\nRESULT:\n%s", SENTENCE, text);
     const mecab_node_t *node = mecab_sparse_tonode(tagger, SENTENCE);
-    if (!node) return refused(mecab_strerror(tagger));
-    for (; node; node = node->next) tell_node(node);
+    if (!node) return report_rejection(mecab_strerror(tagger));
+    for (; node; node = node->next) print_node(node);
     print_dictionaries(mecab_dictionary_info(tagger));
     return 0;
 }
@@ -48,44 +48,46 @@ static int with_tagger(mecab_t *tagger) {
 static int with_tagger_nbest(mecab_t *tagger) {
     const char *text = mecab_nbest_sparse_tostr(tagger, PATHS, SENTENCE);
     if (!text)
-        refused(mecab_strerror(tagger));
+        report_rejection(mecab_strerror(tagger));
     else
         printf("NBEST:\n%s", text);
-    if (!mecab_nbest_init(tagger, SENTENCE)) return refused(mecab_strerror(tagger));
+    if (!mecab_nbest_init(tagger, SENTENCE)) return report_rejection(mecab_strerror(tagger));
     for (int i = 0; i < PATHS; i++) {
         text = mecab_nbest_next_tostr(tagger);
-        if (!text) return refused(mecab_strerror(tagger));
+        if (!text) return report_rejection(mecab_strerror(tagger));
         printf("%d:\n%s", i, text);
     }
     return 0;
 }
 
-static void tell_places(mecab_lattice_t *lattice) {
+static void print_places(mecab_lattice_t *lattice) {
     for (size_t at = 0; at <= mecab_lattice_get_size(lattice); at++) {
         for (const mecab_node_t *node = mecab_lattice_get_begin_nodes(lattice, at); node;
              node = node->bnext) {
-            if (node->isbest) printf("%zu ", at), tell_node(node);
+            if (node->isbest) printf("%zu ", at), print_node(node);
         }
     }
 }
 
 static int with_lattice(mecab_t *tagger, mecab_lattice_t *lattice) {
     mecab_lattice_set_sentence(lattice, SENTENCE);
-    if (!mecab_parse_lattice(tagger, lattice)) return refused(mecab_lattice_strerror(lattice));
+    if (!mecab_parse_lattice(tagger, lattice))
+        return report_rejection(mecab_lattice_strerror(lattice));
     printf("INPUT: %s\nRESULT:\n%s", mecab_lattice_get_sentence(lattice),
            mecab_lattice_tostr(lattice));
     for (const mecab_node_t *node = mecab_lattice_get_bos_node(lattice); node; node = node->next)
-        tell_node(node);
-    tell_places(lattice);
+        print_node(node);
+    print_places(lattice);
     return 0;
 }
 
 static int with_lattice_nbest(mecab_t *tagger, mecab_lattice_t *lattice) {
     mecab_lattice_add_request_type(lattice, MECAB_NBEST);
     mecab_lattice_set_sentence(lattice, SENTENCE);
-    if (!mecab_parse_lattice(tagger, lattice)) return refused(mecab_lattice_strerror(lattice));
+    if (!mecab_parse_lattice(tagger, lattice))
+        return report_rejection(mecab_lattice_strerror(lattice));
     for (int i = 0; i < PATHS; i++) {
-        if (!mecab_lattice_next(lattice)) return refused(mecab_lattice_strerror(lattice));
+        if (!mecab_lattice_next(lattice)) return report_rejection(mecab_lattice_strerror(lattice));
         printf("%d:\n%s", i, mecab_lattice_tostr(lattice));
     }
     return 0;
@@ -105,8 +107,8 @@ int main(int given, char **words) {
     mecab_model_t *model = mecab_model_new(3, options);
     mecab_t *tagger = model ? mecab_model_new_tagger(model) : NULL;
     mecab_lattice_t *lattice = model ? mecab_model_new_lattice(model) : NULL;
-    int status =
-        tagger && lattice ? with_part(words[2], tagger, lattice) : refused(mecab_strerror(NULL));
+    int status = tagger && lattice ? with_part(words[2], tagger, lattice)
+                                   : report_rejection(mecab_strerror(NULL));
     if (lattice) mecab_lattice_destroy(lattice);
     if (tagger) mecab_destroy(tagger);
     if (model) mecab_model_destroy(model);

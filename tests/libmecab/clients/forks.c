@@ -31,7 +31,7 @@ static void set_words(char *words, const char *dictionary) {
     snprintf(words, WORDS, "-d %s", dictionary);
 }
 
-static int answers(mecab_t *tagger) {
+static int prints_wanted(mecab_t *tagger) {
     mecab_lattice_t *lattice = mecab_lattice_new();
     int same = 0;
     if (tagger && lattice) {
@@ -46,7 +46,7 @@ static int answers(mecab_t *tagger) {
 static void *work(void *tagger) {
     for (size_t turn = 0; !is_over; turn++) {
         mecab_t *own = mecab_new2(turns[turn % 2]);
-        if (!own || !answers(tagger)) abort();
+        if (!own || !prints_wanted(tagger)) abort();
         mecab_destroy(own);
     }
     return NULL;
@@ -54,15 +54,15 @@ static void *work(void *tagger) {
 
 static int child(mecab_t *tagger) {
     alarm(SECONDS);
-    if (!answers(tagger)) return 1;
+    if (!prints_wanted(tagger)) return 1;
     mecab_t *own = mecab_new2(options);
-    int same = answers(own);
+    int same = prints_wanted(own);
     if (own) mecab_destroy(own);
     return same ? 0 : 1;
 }
 
 /* Returns how many of `forks` children succeeded. */
-static int answered(mecab_t *tagger, int forks) {
+static int count_successes(mecab_t *tagger, int forks) {
     int count = 0, status = 0;
     for (int i = 0; i < forks; i++) {
         pid_t made = fork();
@@ -86,7 +86,7 @@ int main(int given, char **paths) {
     for (int i = 0; i < THREADS; i++) {
         if (pthread_create(&threads[i], NULL, work, tagger) != 0) return 1;
     }
-    int count = answered(tagger, forks);
+    int count = count_successes(tagger, forks);
     is_over = 1;
     for (int i = 0; i < THREADS; i++) pthread_join(threads[i], NULL);
     printf("%d of %d children answered\n", count, forks);

@@ -2,7 +2,7 @@
 groonga_server.py LINES DATABASE
 
 The table of the lines is indexed by TokenMecab. Requests are tokens of lines and searches for their
-words. It prints the answers in the order of the requests.
+words. It prints the responses in the order of the requests.
 """
 import json
 import socket
@@ -35,7 +35,7 @@ def address(port: int, command: str, **arguments: Union[str, int]) -> str:
     return f"http://127.0.0.1:{port}/d/{command}?{urllib.parse.urlencode(arguments)}"
 
 
-def answer(url: str, body: Optional[bytes] = None) -> str:
+def fetch(url: str, body: Optional[bytes] = None) -> str:
     """Returns the response to a request, without its times."""
     request = urllib.request.Request(url, body, {"Content-Type": "application/json"})
     with urllib.request.urlopen(request, timeout=SECONDS) as response:
@@ -49,11 +49,11 @@ def wait_for(port: int) -> None:
     """Waits until the server responds."""
     for _ in range(SECONDS * 10):
         try:
-            answer(address(port, "status"))
+            fetch(address(port, "status"))
             return
         except OSError:
             time.sleep(0.1)
-    sys.exit("groonga_server: no answer")
+    sys.exit("groonga_server: no response")
 
 
 def fill(port: int, texts: list[str]) -> None:
@@ -70,9 +70,9 @@ def fill(port: int, texts: list[str]) -> None:
         ),
         ("column_create", {"table": "Terms", "name": "lines_text", **index}),
     ):
-        answer(address(port, command, **arguments))
+        fetch(address(port, command, **arguments))
     rows = json.dumps([{"text": text} for text in texts])
-    answer(address(port, "load", table="Lines"), rows.encode())
+    fetch(address(port, "load", table="Lines"), rows.encode())
 
 
 def request(port: int, number: int, texts: list[str]) -> str:
@@ -92,30 +92,30 @@ def request(port: int, number: int, texts: list[str]) -> str:
     return address(port, "select", **searched)
 
 
-def answer_or_error(url: str) -> str:
+def fetch_or_error(url: str) -> str:
     """Returns the response to a request, or why there is none."""
     try:
-        return answer(url)
+        return fetch(url)
     except urllib.error.HTTPError as error:
-        return f"refused: {error.code}"
+        return f"rejected: {error.code}"
     except (OSError, ValueError) as error:
-        return f"no answer: {error}"
+        return f"no response: {error}"
 
 
-def all_answers(port: int, texts: list[str]) -> list[str]:
+def fetch_all(port: int, texts: list[str]) -> list[str]:
     """Sends all requests and returns the responses."""
-    answers = [""] * REQUESTS
+    responses = [""] * REQUESTS
 
     def send(client: int) -> None:
         for number in range(client, REQUESTS, CLIENTS):
-            answers[number] = answer_or_error(request(port, number, texts))
+            responses[number] = fetch_or_error(request(port, number, texts))
 
     threads = [threading.Thread(target=send, args=(client,)) for client in range(CLIENTS)]
     for thread in threads:
         thread.start()
     for thread in threads:
         thread.join()
-    return answers
+    return responses
 
 
 def start(port: int, database: str) -> "subprocess.Popen[bytes]":
@@ -133,7 +133,7 @@ def main() -> None:
     try:
         wait_for(port)
         fill(port, texts)
-        print("\n".join(all_answers(port, texts)))
+        print("\n".join(fetch_all(port, texts)))
         status = server.poll()
         is_alive = "the server lives"
         print(is_alive if status is None else f"the server ended with status {status}")

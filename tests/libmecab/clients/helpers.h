@@ -19,6 +19,8 @@ static inline char *words_of(const char *dictionary, const char *more) {
 }
 
 /* Whether an error means that a call is not supported. */
-static inline int is_left_out(const char *said) { return strstr(said, "not supported") != NULL; }
+static inline int is_left_out(const char *message) {
+    return strstr(message, "not supported") != NULL;
+}
 
 #endif

@@ -21,12 +21,12 @@ static unsigned id_of(const mecab_node_t *node) {
     return node->stat == MECAB_EOS_NODE ? node->id - passed : node->id;
 }
 
-static void tell(const mecab_node_t *node) {
+static void print_node(const mecab_node_t *node) {
     printf("%u %td %u %u %s ", id_of(node), node->surface - sentence, node->length, node->rlength,
            node->feature);
     printf("%u %u %u %u %u ", node->rcAttr, node->lcAttr, node->posid, node->char_type, node->stat);
     printf("%u %d %ld", node->isbest, node->wcost, node->cost);
-    if (node->isbest && node->prev) printf(" behind %u", id_of(node->prev));
+    if (node->isbest && node->prev) printf(" after %u", id_of(node->prev));
     if (node->isbest && node->next) printf(" before %u", id_of(node->next));
     printf("\n");
 }
@@ -40,16 +40,16 @@ static unsigned count_passed(mecab_node_t *const *begins) {
     return count;
 }
 
-static void tell_begins(mecab_node_t *const *begins) {
+static void print_begin_nodes(mecab_node_t *const *begins) {
     passed = count_passed(begins);
     for (size_t at = 0; at <= size; at++) {
         for (const mecab_node_t *node = begins[at]; node; node = node->bnext) {
-            if (is_within(node)) tell(node);
+            if (is_within(node)) print_node(node);
         }
     }
 }
 
-static void tell_ends(mecab_node_t *const *ends) {
+static void print_end_nodes(mecab_node_t *const *ends) {
     for (size_t at = 0; at <= size; at++) {
         for (const mecab_node_t *node = ends[at]; node; node = node->enext)
             printf("%u ", id_of(node));
@@ -57,12 +57,12 @@ static void tell_ends(mecab_node_t *const *ends) {
     }
 }
 
-static int tell_line(mecab_t *tagger, mecab_lattice_t *lattice) {
+static int print_line(mecab_t *tagger, mecab_lattice_t *lattice) {
     mecab_lattice_set_request_type(lattice, MECAB_ONE_BEST);
     mecab_lattice_set_sentence2(lattice, sentence, size);
     if (!mecab_parse_lattice(tagger, lattice)) return 0;
-    tell_begins(mecab_lattice_get_all_begin_nodes(lattice));
-    tell_ends(mecab_lattice_get_all_end_nodes(lattice));
+    print_begin_nodes(mecab_lattice_get_all_begin_nodes(lattice));
+    print_end_nodes(mecab_lattice_get_all_end_nodes(lattice));
     mecab_lattice_set_request_type(lattice, MECAB_ONE_BEST | MECAB_ALL_MORPHS);
     mecab_lattice_set_sentence2(lattice, sentence, size);
     if (!mecab_parse_lattice(tagger, lattice)) return 0;
@@ -76,7 +76,7 @@ static int tell_line(mecab_t *tagger, mecab_lattice_t *lattice) {
 int main(int given, char **paths) {
     char options[4096], *line = NULL;
     size_t room = 0;
-    int told = 1;
+    int is_printed = 1;
     FILE *file = given == 3 || given == 4 ? fopen(paths[2], "r") : NULL;
     if (!file) return 2;
     snprintf(options, sizeof options, "-d %s %s %s", paths[1], given == 4 ? "-u" : "",
@@ -85,16 +85,16 @@ int main(int given, char **paths) {
     mecab_t *tagger = model ? mecab_model_new_tagger(model) : NULL;
     mecab_lattice_t *lattice = model ? mecab_model_new_lattice(model) : NULL;
     if (!tagger || !lattice) return 1;
-    while (told && getline(&line, &room, file) > 0) {
+    while (is_printed && getline(&line, &room, file) > 0) {
         size = strcspn(line, "\n");
         line[size] = '\0';
         sentence = line;
-        told = tell_line(tagger, lattice);
+        is_printed = print_line(tagger, lattice);
     }
     free(line);
     fclose(file);
     mecab_lattice_destroy(lattice);
     mecab_destroy(tagger);
     mecab_model_destroy(model);
-    return told ? 0 : 1;
+    return is_printed ? 0 : 1;
 }

@@ -5,7 +5,7 @@
 #include <stdlib.h>
 #include <string.h>
 
-static void tell(const mecab_node_t *node) {
+static void print_node(const mecab_node_t *node) {
     printf("%.*s %s %u %u ", node->length, node->surface, node->feature, node->length,
            node->rlength);
     printf("%u %u %u %u %u ", node->rcAttr, node->lcAttr, node->posid, node->char_type, node->stat);
@@ -26,7 +26,7 @@ int main(int given, char **paths) {
         line[strcspn(line, "\n")] = '\0';
         const mecab_node_t *node = mecab_sparse_tonode(tagger, line);
         if (!node) return 1;
-        for (; node; node = node->next) tell(node);
+        for (; node; node = node->next) print_node(node);
     }
     free(line);
     fclose(file);

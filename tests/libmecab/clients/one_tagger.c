@@ -15,7 +15,7 @@ typedef struct worker {
     mecab_t *tagger;
     char *const *lines;
     size_t count;
-    FILE *told;
+    FILE *output;
     char *text;
     size_t length;
 } worker;
@@ -53,23 +53,23 @@ static long cost_of_all(mecab_lattice_t *lattice) {
     return cost;
 }
 
-static void tell(worker *one, mecab_lattice_t *lattice, const char *line) {
+static void print_lattice(worker *one, mecab_lattice_t *lattice, const char *line) {
     mecab_lattice_set_sentence(lattice, line);
     if (!mecab_parse_lattice(one->tagger, lattice)) stop(mecab_lattice_strerror(lattice));
-    fputs(mecab_lattice_tostr(lattice), one->told);
+    fputs(mecab_lattice_tostr(lattice), one->output);
     for (const mecab_node_t *node = mecab_lattice_get_bos_node(lattice); node; node = node->next) {
-        fprintf(one->told, "%.*s %s %u %u ", node->length, node->surface, node->feature,
+        fprintf(one->output, "%.*s %s %u %u ", node->length, node->surface, node->feature,
                 node->length, node->rlength);
-        fprintf(one->told, "%u %u %u %u %d %ld\n", node->rcAttr, node->lcAttr, node->char_type,
+        fprintf(one->output, "%u %u %u %u %d %ld\n", node->rcAttr, node->lcAttr, node->char_type,
                 node->stat, node->wcost, node->cost);
     }
-    fprintf(one->told, "%ld\n", cost_of_all(lattice));
+    fprintf(one->output, "%ld\n", cost_of_all(lattice));
 }
 
 static void *work(void *at) {
     worker *one = at;
     mecab_lattice_t *lattice = mecab_lattice_new();
-    for (size_t i = 0; i < one->count; i++) tell(one, lattice, one->lines[i]);
+    for (size_t i = 0; i < one->count; i++) print_lattice(one, lattice, one->lines[i]);
     mecab_lattice_destroy(lattice);
     return NULL;
 }
@@ -77,10 +77,10 @@ static void *work(void *at) {
 /* Parses all lines on the calling thread. */
 static void meet(mecab_t *tagger, char *const *lines, size_t count) {
     worker alone = {
-        .tagger = tagger, .lines = lines, .count = count, .told = fopen("/dev/null", "w")};
-    if (!alone.told) stop("/dev/null");
+        .tagger = tagger, .lines = lines, .count = count, .output = fopen("/dev/null", "w")};
+    if (!alone.output) stop("/dev/null");
     work(&alone);
-    if (fclose(alone.told) != 0) stop("/dev/null");
+    if (fclose(alone.output) != 0) stop("/dev/null");
 }
 
 int main(int given, char **paths) {
@@ -95,13 +95,13 @@ int main(int given, char **paths) {
     if (given == 4) meet(tagger, lines, count);
     for (int i = 0; i < THREADS; i++) {
         all[i] = (worker){.tagger = tagger, .lines = lines, .count = count};
-        all[i].told = open_memstream(&all[i].text, &all[i].length);
-        if (!all[i].told || pthread_create(&all[i].thread, NULL, work, &all[i]) != 0)
+        all[i].output = open_memstream(&all[i].text, &all[i].length);
+        if (!all[i].output || pthread_create(&all[i].thread, NULL, work, &all[i]) != 0)
             stop("no thread");
     }
     for (int i = 0; i < THREADS; i++) {
-        if (pthread_join(all[i].thread, NULL) != 0 || fclose(all[i].told) != 0)
-            stop("a thread's answers are lost");
+        if (pthread_join(all[i].thread, NULL) != 0 || fclose(all[i].output) != 0)
+            stop("a thread's output is lost");
         if (fwrite(all[i].text, 1, all[i].length, stdout) != all[i].length) stop("a write failed");
         free(all[i].text);
     }

@@ -32,7 +32,7 @@ static mecab_t *opened(void) {
 }
 
 /* Returns the path of the file beside the image with this ending. */
-static const char *beside(const char *ending) {
+static const char *path_next_to(const char *ending) {
     static char name[4096];
     snprintf(name, sizeof name, "%.*s%s", (int)(strlen(path) - strlen(".img")), path, ending);
     return name;
@@ -53,18 +53,18 @@ static void write_stamped(bool is_other) {
     for (size_t i = 0; i < 32; i++) to += sprintf(to, "%02x", sum[i]);
     if (is_other) to[-1] = to[-1] == '0' ? '1' : '0';
     to += sprintf(to, "\n名詞 3\n");
-    write_whole(beside(".pos-id.def"), rules, (size_t)(to - rules));
+    write_whole(path_next_to(".pos-id.def"), rules, (size_t)(to - rules));
     free(image);
 }
 
 /* Taggers over one image with other rules, and without rules, each keep their own ids. */
 static void rules(void) {
     mecab_t *none = opened();
-    write_whole(beside(".dicrc"), "cost-factor = 800\n", strlen("cost-factor = 800\n"));
+    write_whole(path_next_to(".dicrc"), "cost-factor = 800\n", strlen("cost-factor = 800\n"));
     mecab_t *missing = opened();
-    write_whole(beside(".pos-id.def"), "名詞 3\n", strlen("名詞 3\n"));
+    write_whole(path_next_to(".pos-id.def"), "名詞 3\n", strlen("名詞 3\n"));
     mecab_t *one = opened(), *same = opened();
-    write_whole(beside(".pos-id.def"), "記号 3\n名詞 40\n", strlen("記号 3\n名詞 40\n"));
+    write_whole(path_next_to(".pos-id.def"), "記号 3\n名詞 40\n", strlen("記号 3\n名詞 40\n"));
     mecab_t *other = opened();
     write_stamped(false);
     mecab_t *stamped = opened();
@@ -76,7 +76,7 @@ static void rules(void) {
     CHECK(has_id(none, 0) && has_id(missing, 1) && has_id(one, 3) && has_id(other, 40));
     mecab_destroy(one);
     CHECK(has_id(none, 0) && has_id(missing, 1) && has_id(same, 3) && has_id(other, 40));
-    CHECK(unlink(beside(".dicrc")) == 0 && unlink(beside(".pos-id.def")) == 0);
+    CHECK(unlink(path_next_to(".dicrc")) == 0 && unlink(path_next_to(".pos-id.def")) == 0);
     mecab_destroy(stamped);
     mecab_destroy(foreign);
     mecab_destroy(none);

@@ -85,7 +85,7 @@ def wait_for(sockets: Path) -> None:
         if subprocess.run([SERVER / "pg_isready", "-q", "-h", sockets]).returncode == 0:
             return
         time.sleep(0.1)
-    sys.exit("sylph_searcher: the server does not answer")
+    sys.exit("sylph_searcher: the server does not respond")
 
 
 def print_indexes(folder: Path) -> None:
