@@ -1,4 +1,4 @@
-"""What a check prints about functions, and which of its lines say that a goal of a function fails.
+"""What a check prints about functions, and which of its lines report a failed goal of a function.
 
 A function's proof has goals: one for each clause at each return, for what each call requires, for
 the invariant and the end of each loop, and for each step that may panic or overflow. Tactics try

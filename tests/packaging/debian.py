@@ -61,8 +61,9 @@ WITH_PROGRAMS = ("python3-kumquatsieve", "kumquatsieve")
 
 
 def name_of(package: str) -> str:
+    """Returns the name of a package, or an empty text if the file is not a package."""
     words = ["dpkg-deb", "-f", package, "Package"]
-    return subprocess.run(words, capture_output=True, text=True, check=True).stdout.strip()
+    return subprocess.run(words, capture_output=True, text=True, check=False).stdout.strip()
 
 
 def prepare(root: Root, packages: Sequence[str]) -> Dict[str, str]:
@@ -163,6 +164,9 @@ def main() -> int:
     packages: List[str] = arguments.parse_args().packages
     if shutil.which("dpkg") is None:
         end_left_out("dpkg is missing")
+    for package in packages:
+        if not name_of(package):
+            arguments.error(f"{package} is not a package")
     words = ["chroot", "/", "true"]
     if subprocess.run(words, stderr=subprocess.DEVNULL).returncode != 0:
         end_left_out("the root folder may not be changed here")
