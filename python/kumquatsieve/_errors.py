@@ -26,8 +26,8 @@ class KumquatsieveError(Exception):
 
     def __str__(self):
         where = f"line {self.line}: " if self.line else ""
-        is_told = self.position is None or " at byte " in self.message
-        at = "" if is_told else f" at character {self.position}"
+        is_complete = self.position is None or " at byte " in self.message
+        at = "" if is_complete else f" at character {self.position}"
         cure = self.explanation.partition("What to do: ")[2].strip()
         advice = self.advice or ADVICE.get(self.code, cure)
         return "; ".join(filter(None, [f"{where}{self.message}{at}", advice]))

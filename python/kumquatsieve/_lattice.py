@@ -111,7 +111,9 @@ class Lattice:
             up, down = (TOP + ROW * rows[node] + HEIGHT // 2 for node in (one, other))
             best = " class='best'" if one.best and other.best else ""
             svg.append(f"<line{best} x1='{left}' y1='{up}' x2='{right}' y2='{down}'/>")
-            svg.append(text((left + right) / 2, (2 * up + down) / 3 - 3, cost))
+            # With one more part than rows, no two lines have their costs in the same place.
+            part = len(ends) + 1
+            svg.append(text(left + (right - left) / part, up + (down - up) / part - 3, cost))
         for node in nodes:
             left, right, top = COLUMN * node.start, COLUMN * node.end, TOP + ROW * rows[node]
             best, lost = (" class='best'", []) if node.best else ("", [f"+{node.lost}"])

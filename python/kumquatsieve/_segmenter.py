@@ -124,7 +124,7 @@ def advise(error, image):
     what, is_unknown, _ = error.message.partition("; searched ")
     if os.path.isdir(name):
         error.advice = f"an image is a file; `kumquatsieve-import {name} IMG` compiles sources"
-    elif isinstance(error, FileNotFoundError) and "/" not in what:
+    elif isinstance(error, FileNotFoundError) and (is_unknown or image is None):
         names = ", ".join(os.path.basename(path)[:-4] for path in _core.images()) or "none"
         error.advice = f"searched {', '.join(_core.directories())}; available images: {names}"
         if is_unknown:

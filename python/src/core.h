@@ -91,7 +91,7 @@ typedef struct entry {
     uint64_t key;
     PyObject *surface; /* NULL until a known word of the entry was found in a plain text */
     PyObject *feature;
-    PyObject *fields; /* a tuple, or NULL until they are asked for */
+    PyObject *fields; /* a tuple, or NULL until they are read */
     PyObject *names;  /* numbers of fields by their names */
     Py_ssize_t base;  /* number of the field base_form, or -1 */
     int32_t cost;

@@ -45,8 +45,10 @@ static PyObject *list_of_nodes(call *of, int64_t total) {
     const kumquatsieve_node *all = NULL;
     size_t count = 0;
     kumquatsieve_error error;
-    if (kumquatsieve_nodes(&of->native, &all, &count, &error) != KUMQUATSIEVE_OK)
-        return raise_error(of->state, &error, -1);
+    PyThreadState *saved = of->utf8.length >= LONG_TEXT ? PyEval_SaveThread() : NULL;
+    uint32_t code = kumquatsieve_nodes(&of->native, &all, &count, &error);
+    if (saved) PyEval_RestoreThread(saved);
+    if (code != KUMQUATSIEVE_OK) return raise_error(of->state, &error, -1);
     Py_ssize_t *characters = character_numbers(of->utf8.bytes, of->utf8.length);
     PyObject *list = characters ? PyList_New((Py_ssize_t)count) : NULL;
     for (size_t at = 0; list && at < count; at++) {

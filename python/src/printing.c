@@ -4,7 +4,7 @@
 #include <stdlib.h>
 #include <string.h>
 
-/* What a call prints: its output in UTF-8, and where that of each line ends if `ends` is not NULL.
+/* What a call prints: its output in UTF-8, and the end of each line's output if `ends` is not NULL.
    `bytes` are in `room`, or borrowed from the library. */
 typedef struct output {
     const char *bytes;

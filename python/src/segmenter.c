@@ -48,7 +48,8 @@ static bool take(segmenter *self, int format, kumquatsieve_segmenter *native) {
     return true;
 }
 
-static void give_back(segmenter *self, int format, kumquatsieve_segmenter *native, size_t longest) {
+static void release_native(segmenter *self, int format, kumquatsieve_segmenter *native,
+                           size_t longest) {
     int *count = &self->idle_count[format];
     if (self->dictionary == NULL || *count == IDLE || longest > LONGEST_KEPT)
         kumquatsieve_segmenter_close(native);
@@ -75,7 +76,7 @@ bool start_call(call *of, PyObject *object, PyObject *text, bool takes_bytes, in
 }
 
 void end_call(call *of) {
-    give_back(of->self, of->format, &of->native, of->longest);
+    release_native(of->self, of->format, &of->native, of->longest);
     Py_XDECREF(of->utf8.owner);
     Py_DECREF(of->dictionary);
 }
@@ -129,7 +130,7 @@ static PyObject *new_segmenter(PyTypeObject *type, PyObject *arguments, PyObject
     self->is_strict = is_strict != 0;
     /* The first one is opened at once, since that tests the format and the grouping. */
     if (take(self, OWN_FORMAT, &native))
-        give_back(self, OWN_FORMAT, &native, 0);
+        release_native(self, OWN_FORMAT, &native, 0);
     else
         Py_CLEAR(self);
     return (PyObject *)self;
@@ -147,7 +148,8 @@ static PyObject *close_segmenter(PyObject *object, PyObject *unused) {
     Py_RETURN_NONE;
 }
 
-/* Its dictionary and its format may have attributes of the caller, and so be in a cycle. */
+/* Visits the dictionary and the format, which may have attributes of the caller, and so be in a
+   cycle. */
 static int visit(PyObject *object, visitproc visit, void *arg) {
     Py_VISIT(Py_TYPE(object));
     Py_VISIT(((segmenter *)object)->dictionary);

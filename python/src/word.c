@@ -34,7 +34,7 @@ static void free_word(PyObject *self) {
     Py_DECREF(module);
 }
 
-static PyObject *refuse(PyTypeObject *type, PyObject *arguments, PyObject *keywords) {
+static PyObject *reject_construction(PyTypeObject *type, PyObject *arguments, PyObject *keywords) {
     (void)type, (void)arguments, (void)keywords;
     PyErr_SetString(PyExc_TypeError, "words are made by a Segmenter");
     return NULL;
@@ -261,7 +261,7 @@ static PyMethodDef word_methods[] = {{"__dir__", directory, METH_NOARGS, NULL},
 static PyType_Slot word_slots[] = {
     {Py_tp_doc, "A word of a text. The named fields of its feature are attributes too, which are "
                 "None if the field is absent or \"*\"."},
-    {Py_tp_new, refuse},
+    {Py_tp_new, reject_construction},
     {Py_tp_dealloc, free_word},
     {Py_tp_getattro, attribute},
     {Py_tp_repr, shown},
@@ -290,7 +290,7 @@ static PyGetSetDef node_getters[] = {
     {NULL, NULL, NULL, NULL, NULL}};
 
 static PyType_Slot node_slots[] = {{Py_tp_doc, "A word of a lattice, with the costs of its paths."},
-                                   {Py_tp_new, refuse},
+                                   {Py_tp_new, reject_construction},
                                    {Py_tp_dealloc, free_word},
                                    {Py_tp_members, node_members},
                                    {Py_tp_getset, node_getters},

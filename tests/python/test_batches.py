@@ -35,7 +35,7 @@ def test_a_text_may_be_in_any_batches(segmenter, monkeypatch, kind):
 
 
 # A label, the text, the number of the line that is rejected, and the error.
-REFUSED = [
+REJECTED = [
     ("no text in line 3", "もも\nもも\n".encode() + b"\xff\nab\n", 3, "G3"),
     ("a half character before a line feed", "もも\nもも\n".encode() + b"a\xe3\x82\nab\n", 3, "G3"),
     ("a half character at the end", "もも\nもも\n".encode() + b"a\xe3\x82", 3, "G3"),
@@ -47,15 +47,15 @@ REFUSED = [
 
 
 @pytest.mark.parametrize("way", [*WAYS, Segmenter.lines])
-@pytest.mark.parametrize("what, text, line, code", REFUSED, ids=[row[0] for row in REFUSED])
+@pytest.mark.parametrize("what, text, line, code", REJECTED, ids=[row[0] for row in REJECTED])
 def test_an_error_has_its_line_in_the_whole_text(
     segmenter, monkeypatch, way, what, text, line, code
 ):
     for batch in (64, 1000, 1_000_000):
         monkeypatch.setattr(_lines, "BATCH", batch)
-        answers, before = way(segmenter, io.BytesIO(text), errors="strict"), 0
+        results, before = way(segmenter, io.BytesIO(text), errors="strict"), 0
         with pytest.raises(KumquatsieveError) as error:
-            for _ in answers:
+            for _ in results:
                 before += 1
         assert (error.value.line, error.value.code, before) == (line, code, line - 1), batch
 
@@ -82,8 +82,8 @@ def test_what_is_no_text_is_replaced_and_counted(segmenter, monkeypatch, way, te
     wanted = list(way(segmenter, mended))
     for batch in range(1, len(text) + 1):
         monkeypatch.setattr(_lines, "BATCH", batch)
-        answers = way(segmenter, io.BytesIO(text), errors="replace")
-        assert (list(answers), answers.replaced) == (wanted, count), batch
+        results = way(segmenter, io.BytesIO(text), errors="replace")
+        assert (list(results), results.replaced) == (wanted, count), batch
 
 
 MARK = "\uffff"
@@ -110,10 +110,10 @@ def test_outputs_may_have_any_character(system, odd, marked, format, text):
 
 
 def test_an_error_after_a_mark_has_its_line(segmenter):
-    answers = segmenter.parse_lines(f"もも\n{MARK}\n".encode() + b"\xff\n", errors="strict")
-    assert len([next(answers), next(answers)]) == 2
+    results = segmenter.parse_lines(f"もも\n{MARK}\n".encode() + b"\xff\n", errors="strict")
+    assert len([next(results), next(results)]) == 2
     with pytest.raises(KumquatsieveError, match="line 3: .*G3|line 3: .*UTF-8"):
-        next(answers)
+        next(results)
 
 
 class Counted(Segmenter):
@@ -144,10 +144,10 @@ def test_an_error_follows_the_lines_of_the_batches_before_it(system, monkeypatch
     monkeypatch.setattr(_lines, "BATCH", 1)
     segmenter = Failing(system)
     segmenter.calls = []
-    answers = way(segmenter, "もも\nもも\nもも\n")
-    assert next(answers)
+    results = way(segmenter, "もも\nもも\nもも\n")
+    assert next(results)
     with pytest.raises(MemoryError):
-        next(answers)
+        next(results)
 
 
 def test_an_output_may_be_long(segmenter):

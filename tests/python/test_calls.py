@@ -11,7 +11,7 @@ from kumquatsieve import Format, KumquatsieveError, Segmenter
 
 TESTS = Path(__file__).resolve().parents[1]
 sys.path.insert(0, str(TESTS))
-from cli.cases.images import OTHER_SIZES, REFUSED, UNTESTED  # noqa: E402 (after its folder)
+from cli.cases.images import OTHER_SIZES, REJECTED, UNTESTED  # noqa: E402 (after its folder)
 
 JSEG = TESTS.parent / "crates" / "jseg" / "out" / "jseg"
 LINE = "すもももも"
@@ -90,11 +90,11 @@ def opening(image, users, test_digest):
     return error.value
 
 
-@pytest.mark.parametrize("number", range(len(REFUSED)), ids=[text for _, text in REFUSED])
+@pytest.mark.parametrize("number", range(len(REJECTED)), ids=[text for _, text in REJECTED])
 def test_an_image_that_is_invalid(system, number):
     """Each image that `tests/cli/run.py` rejects, as the system's and a user's. The SHA-256 is
-    tested only if that is asked for."""
-    image, text = REFUSED[number]
+    tested only if the caller requests it."""
+    image, text = REJECTED[number]
     code, _, *numbers = text.split()
     for tested in [True] if code == "L8" else [False, True]:
         for error in (opening(image, [], tested), opening(system, [image], tested)):

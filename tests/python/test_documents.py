@@ -27,7 +27,7 @@ def corpus(folder):
 ROWS = {
     "corpus.txt": (
         corpus,
-        lambda given, seen, folder: (seen, given["print"].said),
+        lambda given, seen, folder: (seen, given["print"].printed),
         (JOINED + ["\ufffd"], (1, "characters were replaced")),
     ),
     "multiprocessing.Pool": (
@@ -41,10 +41,10 @@ ROWS = {
 class Printer:
     """A replacement for `print`."""
 
-    said = None
+    printed = None
 
     def __call__(self, *words):
-        self.said = words
+        self.printed = words
 
 
 def test_each_block_is_that_of_a_row():
@@ -53,7 +53,7 @@ def test_each_block_is_that_of_a_row():
 
 
 @pytest.mark.parametrize("mark", ROWS)
-def test_a_block_does_what_it_says(system, tmp_path, monkeypatch, mark):
+def test_a_block_has_its_documented_result(system, tmp_path, monkeypatch, mark):
     (block,) = (block for block in BLOCKS if mark in block)
     given_in, look, wanted = ROWS[mark]
     monkeypatch.chdir(tmp_path)

@@ -50,13 +50,13 @@ def again(error):
     return [pickle.loads(pickle.dumps(error)), copy.copy(error), copy.deepcopy(error)]
 
 
-@pytest.mark.parametrize("given, kind, parts, said", ERRORS)
-def test_an_error_says_what_and_where(given, kind, parts, said):
+@pytest.mark.parametrize("given, kind, parts, message", ERRORS)
+def test_the_message_and_the_position_of_an_error(given, kind, parts, message):
     error = error_of(*given)
     assert isinstance(error, (KumquatsieveError,)) and isinstance(error, kind)
-    said = f"{said}; {CURES[error.code]}"
+    message = f"{message}; {CURES[error.code]}"
     for one in (error, *again(error)):
-        assert (type(one), parts_of(one), str(one)) == (type(error), parts, said)
+        assert (type(one), parts_of(one), str(one)) == (type(error), parts, message)
     assert (error.message, error.filename) == (given[4], None)
     if kind is OSError:
         assert (error.errno, error.strerror) == (given[1], os.strerror(given[1]))
@@ -97,11 +97,11 @@ GIVEN = [
 ]
 
 
-@pytest.mark.parametrize("what, make, said", GIVEN)
-def test_what_is_no_image_is_named_with_what_to_do(tmp_path, what, make, said):
+@pytest.mark.parametrize("what, make, message", GIVEN)
+def test_what_is_no_image_is_named_with_what_to_do(tmp_path, what, make, message):
     path = tmp_path / "image.img"
     make(path)
-    with pytest.raises(KumquatsieveError, match=said) as error:
+    with pytest.raises(KumquatsieveError, match=message) as error:
         Segmenter(path)
     assert str(path) in str(error.value)
     for one in (error.value, *again(error.value)):

@@ -129,13 +129,13 @@ def run(tmp_path, user):
     return run
 
 
-@pytest.mark.parametrize("name, words, status, printed, said", ROWS)
-def test_an_example(run, system, name, words, status, printed, said):
+@pytest.mark.parametrize("name, words, status, printed, message", ROWS)
+def test_an_example(run, system, name, words, status, printed, message):
     if name in NEEDED:
         pytest.importorskip(NEEDED[name])
     found, out, error = run(name, [system, *words])
     assert found == status and printed in (None, out), error
-    assert said in error if said else error == ""
+    assert message in error if message else error == ""
     assert "Traceback" not in error
 
 

@@ -15,6 +15,7 @@ from kumquatsieve import Dictionary, KumquatsieveError, Segmenter, _core
 
 LINE = "すもももも"
 WORDS = ["すもも", "もも"]
+HINT = "compile an image with kumquatsieve-import"
 WAIT = 60
 
 
@@ -212,8 +213,9 @@ def test_a_file_of_a_bare_name_comes_first_and_a_folder_does_not(system, user, i
 @pytest.mark.parametrize("name", ["./sample", "sample.img", ""])
 def test_no_other_name_is_looked_up(system, installed, name):
     shutil.copy(system, installed / "sample.img")
-    with pytest.raises(FileNotFoundError):
+    with pytest.raises(FileNotFoundError) as error:
         Segmenter(name)
+    assert "searched" not in str(error.value)
 
 
 def searched(names):
@@ -223,8 +225,7 @@ def searched(names):
 
 def unknown(names):
     """Returns the error of the name `ipadic`."""
-    hint = "compile an image with kumquatsieve-import"
-    return f"ipadic: no such image (F1 File); {searched(names)}; {hint}"
+    return f"ipadic: no such image (F1 File); {searched(names)}; {HINT}"
 
 
 def test_a_name_that_is_not_installed_lists_those_that_are(system, user, installed):
@@ -284,7 +285,7 @@ def test_only_regular_files_are_images_that_are_installed(system, installed, not
 
 
 def test_without_a_name_the_only_one_is_taken(system, user, installed):
-    with pytest.raises(FileNotFoundError, match="no dictionary is installed.*kumquatsieve-import"):
+    with pytest.raises(FileNotFoundError, match=f"no dictionary is installed; {HINT}"):
         Segmenter()
     shutil.copy(system, installed / "sample.img")
     shutil.copy(user, installed / "words.img")

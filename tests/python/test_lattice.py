@@ -5,6 +5,7 @@ import shutil
 import subprocess
 import sys
 import tracemalloc
+from collections import namedtuple
 from pathlib import Path
 from xml.etree import ElementTree
 
@@ -204,13 +205,13 @@ def test_rivals_worked_by_hand(system, line):
 class MadeUp:
     """A node that counts how often its attributes are read."""
 
-    asked = 0
+    read_count = 0
 
     def __init__(self, place, end, lost):
         self.all = {"byte_place": place, "byte_end": end, "lost": lost, "best": lost == 0}
 
     def __getattr__(self, name):
-        MadeUp.asked += 1
+        MadeUp.read_count += 1
         return self.all[name]
 
 
@@ -250,7 +251,7 @@ def test_rivals_of_many_nodes_take_few_steps():
     steps = []
     for size in (75, 150):
         some = [node for node in nodes if node.byte_end <= size]
-        MadeUp.asked, lines = 0, 0
+        MadeUp.read_count, lines = 0, 0
 
         def trace(frame, event, _):
             nonlocal lines
@@ -262,7 +263,7 @@ def test_rivals_of_many_nodes_take_few_steps():
             rivals = Lattice(some, 0, "").rivals()
         finally:
             sys.settrace(None)
-        assert MadeUp.asked < 6 * len(some)
+        assert MadeUp.read_count < 6 * len(some)
         steps.append(lines / len(some))
     assert steps[1] < 1.1 * steps[0] < 10
     found = [(rival.word.byte_place, rival.node.byte_place, rival.lost) for rival in rivals]
@@ -526,6 +527,17 @@ def test_texts_of_a_drawing_have_places_of_their_own(system):
     drawn = ElementTree.fromstring(Segmenter(system).lattice("ももももももももももすもも").to_svg())
     places = [(text.get("x"), text.get("y")) for text in drawn.iter(f"{SVG}text")]
     assert len(places) == len({*places}) > 40
+
+
+def test_costs_of_lines_that_cross_have_places_of_their_own():
+    """Two words end, and three start, at character 2."""
+    names = "start end best place byte_place byte_end lost surface fields cost total"
+    Drawn = namedtuple("Drawn", names)
+    spans = [(0, 2, True), (0, 2, False), (2, 4, True), (2, 3, False), (2, 4, False)]
+    nodes = [Drawn(a, b, best, a, a, b, 0, "もも", ("名詞",), 1, 0) for a, b, best in spans]
+    drawn = ElementTree.fromstring(Lattice(nodes, 0, "もももも").to_svg())
+    places = [(text.get("x"), text.get("y")) for text in drawn.iter(f"{SVG}text")]
+    assert len(places) == len({*places})
 
 
 def test_connection_costs_of_a_drawing_are_those_of_the_image(system, tmp_path):

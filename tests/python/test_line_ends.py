@@ -128,7 +128,7 @@ def test_what_is_no_text_is_named(segmenter, call, line):
         call(segmenter, line)
 
 
-def test_the_lines_of_a_file_are_cut_as_they_come(segmenter, tmp_path):
+def test_the_lines_of_a_file_are_segmented_as_they_come(segmenter, tmp_path):
     path = tmp_path / "text"
     path.write_bytes("すもももも\r\n\nもも".encode())
     for newline in (None, "", "\n"):

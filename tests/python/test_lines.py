@@ -116,8 +116,8 @@ def test_ends_of_lines(segmenter, source, text, joined):
 def test_a_line_of_any_length(segmenter, way, source):
     """It is segmented in parts of at most a mebibyte, which join without a gap."""
     long = "z" * (2**21 + 5) + "もも"
-    answers = list(BEGIN[way](segmenter, SOURCES[source](f"もも\n{long}\nもも\n")))
-    assert len(answers) == 3 and answers[0] == answers[2]
+    results = list(BEGIN[way](segmenter, SOURCES[source](f"もも\n{long}\nもも\n")))
+    assert len(results) == 3 and results[0] == results[2]
     call, _ = WAYS[way]
     assert call(segmenter, [long])[0] == call(segmenter, f"{long}\n")[0]
     text = f"もも\n{long}\nもも\n"
@@ -134,19 +134,19 @@ def test_a_line_of_any_length(segmenter, way, source):
 def test_what_is_no_utf_8_is_rejected_or_replaced(segmenter, monkeypatch, way, bad, batch):
     monkeypatch.setattr(_lines, "BATCH", batch)
     text, call = b"a\n" + bad + b"\nb\n", BEGIN[way]
-    answers = call(segmenter, io.BytesIO(text), errors="strict")
-    next(answers)
+    results = call(segmenter, io.BytesIO(text), errors="strict")
+    next(results)
     with pytest.raises(ValueError, match="line 2: .*not UTF-8") as error:
-        next(answers)
+        next(results)
     assert (error.value.code, error.value.line) == ("G3", 2)
     assert error.value.position == (1 if bad[:1] in (b"a", b"\xef") else 0)
     with pytest.raises(StopIteration):
-        next(answers)
+        next(results)
     mended = text.decode("utf-8", "replace")
     for errors in (None, "replace"):
-        answers = call(segmenter, io.BytesIO(text), errors=errors)
-        assert list(answers) == list(call(segmenter, mended))
-        assert answers.replaced == mended.count("\ufffd") - text.count("\ufffd".encode())
+        results = call(segmenter, io.BytesIO(text), errors=errors)
+        assert list(results) == list(call(segmenter, mended))
+        assert results.replaced == mended.count("\ufffd") - text.count("\ufffd".encode())
 
 
 @pytest.mark.parametrize("source", [lambda text: text, io.StringIO, lambda text: [text]])
@@ -155,11 +155,11 @@ def test_half_of_a_pair_is_rejected_or_replaced(segmenter, way, source):
     with pytest.raises(ValueError, match="line 1: ") as error:
         next(BEGIN[way](segmenter, source("a\udc80b\ud800"), errors="strict"))
     assert error.value.position == 1
-    answers = BEGIN[way](segmenter, source("a\udc80b\ud800"))
-    assert list(answers) == list(BEGIN[way](segmenter, "a\ufffdb\ufffd"))
-    assert answers.replaced == 2
-    answers = BEGIN[way](segmenter, source("\ud842\udfb7"))
-    assert list(answers) == list(BEGIN[way](segmenter, "𠮷")) and answers.replaced == 0
+    results = BEGIN[way](segmenter, source("a\udc80b\ud800"))
+    assert list(results) == list(BEGIN[way](segmenter, "a\ufffdb\ufffd"))
+    assert results.replaced == 2
+    results = BEGIN[way](segmenter, source("\ud842\udfb7"))
+    assert list(results) == list(BEGIN[way](segmenter, "𠮷")) and results.replaced == 0
 
 
 @pytest.mark.parametrize("way", WAYS)
@@ -178,12 +178,12 @@ def test_errors_has_two_values(segmenter, way):
 @pytest.mark.parametrize("way", WAYS)
 def test_what_is_no_line_is_named(segmenter, way, bad):
     """An example is a missing value in a column of pandas."""
-    answers = BEGIN[way](segmenter, ["もも", bad, "もも"])
-    next(answers)
+    results = BEGIN[way](segmenter, ["もも", bad, "もも"])
+    next(results)
     with pytest.raises(
         TypeError, match=f"line 2: a line must be a str or bytes, not {type(bad).__name__}"
     ):
-        next(answers)
+        next(results)
 
 
 @pytest.mark.parametrize("source", [None, 3, Path("text.txt"), object()])
@@ -284,11 +284,11 @@ def test_what_is_read_is_what_it_has_and_not_what_it_says(segmenter, way, kind):
 @pytest.mark.parametrize("way", WAYS)
 def test_what_a_read_may_not_return_is_named(segmenter, way, bad):
     """A number is not bytes, although `bytes` accepts it."""
-    answers = BEGIN[way](segmenter, Reads(b"ab\n", bad))
+    results = BEGIN[way](segmenter, Reads(b"ab\n", bad))
     if way == "lines":
-        next(answers)
+        next(results)
     with pytest.raises(TypeError, match=f"must return bytes, not {type(bad).__name__}"):
-        list(answers)
+        list(results)
     with pytest.raises(TypeError, match=f"must return str or bytes, not {type(bad).__name__}"):
         next(BEGIN[way](segmenter, Reads(bad)))
 
@@ -296,12 +296,12 @@ def test_what_a_read_may_not_return_is_named(segmenter, way, bad):
 @pytest.mark.parametrize("first, second, last", [("ab\n", b"ab\n", b""), (b"ab\n", "ab\n", "")])
 @pytest.mark.parametrize("way", WAYS)
 def test_a_file_is_of_text_or_of_bytes(segmenter, way, first, second, last):
-    answers = BEGIN[way](segmenter, Reads(first, second))
-    next(answers)
+    results = BEGIN[way](segmenter, Reads(first, second))
+    next(results)
     with pytest.raises(
         TypeError, match=f"must return {type(first).__name__}, not {type(second).__name__}"
     ):
-        next(answers)
+        next(results)
     assert len(list(BEGIN[way](segmenter, Reads(first, last, first)))) == 1
 
 
@@ -360,10 +360,10 @@ def test_a_byte_of_a_long_line_takes_as_many_steps_as_one_of_a_short_line(sign):
 @pytest.mark.parametrize("way", WAYS)
 def test_what_an_iterable_may_not_give_is_named(segmenter, way, bad):
     """A number is not bytes, although `bytes` accepts it."""
-    answers = BEGIN[way](segmenter, [b"ab\n", bad])
-    next(answers)
+    results = BEGIN[way](segmenter, [b"ab\n", bad])
+    next(results)
     with pytest.raises(TypeError, match=f"line 2: .* not {type(bad).__name__}"):
-        next(answers)
+        next(results)
 
 
 @pytest.mark.parametrize("way", WAYS)
@@ -385,12 +385,12 @@ def test_an_exception_of_the_source_follows_the_lines_before_it(segmenter, way):
         yield from LINES[:2]
         raise OSError("the source's")
 
-    answers = BEGIN[way](segmenter, source())
-    assert len([next(answers), next(answers)]) == 2
+    results = BEGIN[way](segmenter, source())
+    assert len([next(results), next(results)]) == 2
     with pytest.raises(OSError, match="the source's"):
-        next(answers)
+        next(results)
     with pytest.raises(StopIteration):
-        next(answers)
+        next(results)
 
 
 CHANGES = [
@@ -408,14 +408,14 @@ def test_a_text_that_changes_is_the_text_of_the_call(segmenter, monkeypatch, way
     call, wanted = WAYS[way]
     for kind in (bytearray, lambda text: memoryview(bytearray(text))):
         text = kind(TEXT.encode())
-        answers, changed = BEGIN[way](segmenter, text), getattr(text, "obj", text)
-        first = next(answers)
+        results, changed = BEGIN[way](segmenter, text), getattr(text, "obj", text)
+        first = next(results)
         if isinstance(text, memoryview):
             text.release()
         change(changed)
         rest = WAYS[way][0](segmenter, TEXT)
-        assert [first, *answers] == [*BEGIN[way](segmenter, TEXT)] and rest == wanted
-        assert answers.replaced == 0
+        assert [first, *results] == [*BEGIN[way](segmenter, TEXT)] and rest == wanted
+        assert results.replaced == 0
 
 
 @pytest.mark.parametrize("way", WAYS)
@@ -456,15 +456,15 @@ def test_an_item_of_several_lines_is_one_result(segmenter, way):
 
 def test_lines_come_as_soon_as_they_are_there(segmenter):
     """Each result is returned before the next line is read, as a terminal needs."""
-    asked = []
+    read_lines = []
 
     def source():
         for line in LINES:
-            asked.append(line)
+            read_lines.append(line)
             yield line
 
     for number, _ in enumerate(segmenter.lines(source()), 1):
-        assert len(asked) == number
+        assert len(read_lines) == number
 
 
 @pytest.mark.parametrize("way", WAYS)
@@ -472,11 +472,11 @@ def test_nothing_is_held_between_two_lines(system, monkeypatch, way):
     """A caller may close the segmenter within the loop. The next iteration raises the error."""
     monkeypatch.setattr(_lines, "BATCH", 1)
     segmenter = Segmenter(system)
-    answers = BEGIN[way](segmenter, ["もも"] * 2)
-    next(answers)
+    results = BEGIN[way](segmenter, ["もも"] * 2)
+    next(results)
     segmenter.close()
     with pytest.raises(ValueError, match="closed"):
-        for _ in answers:
+        for _ in results:
             pass
 
 

@@ -28,12 +28,12 @@ def test_what_is_installed_has_the_same_version():
     assert importlib.metadata.version("kumquatsieve") == kumquatsieve.__version__
 
 
-def test_each_name_that_is_exported_is_there_and_says_what_it_is():
+def test_each_exported_name_is_there_and_has_a_docstring():
     for name in kumquatsieve.__all__:
         assert getattr(kumquatsieve, name).__doc__
 
 
-def test_each_call_has_a_signature_and_says_what_it_does():
+def test_each_call_has_a_signature_and_a_docstring():
     """Editors and `help` show them. mypy compares them with the stubs."""
     for kind in (kumquatsieve.Dictionary, kumquatsieve.Lattice, kumquatsieve.Segmenter):
         calls = [call for name, call in inspect.getmembers(kind, callable) if name[0] != "_"]

@@ -13,7 +13,7 @@ LINE = "すもももも"
 WAIT = 60
 
 
-def cut(segmenter):
+def segment(segmenter):
     """Runs as a task of a worker. Closes the segmenter.
 
     Returns the words, the process id, and the identity of the dictionary.
@@ -33,7 +33,7 @@ class Named(Segmenter):
 def test_a_process_loads_once_for_all_tasks_and_not_at_all_after_a_fork(system, user, start):
     segmenter = Segmenter(system, [user])
     with multiprocessing.get_context(start).Pool(2) as pool:
-        done = pool.map_async(cut, [segmenter] * 20, chunksize=1).get(WAIT)
+        done = pool.map_async(segment, [segmenter] * 20, chunksize=1).get(WAIT)
     assert [words for words, _, _ in done] == [[LINE]] * 20
     dictionaries = {(process, dictionary) for _, process, dictionary in done}
     assert len(dictionaries) == len({process for process, _ in dictionaries})
@@ -62,7 +62,7 @@ def test_what_is_made_of_a_segmenter_tests_as_that_did(system, damaged, damaged_
     tested, untested = Segmenter(path, test_digest=True), Segmenter(damaged, [damaged_user])
     pickled = [pickle.dumps(one) for one in (tested, copy.copy(tested), tested.share())]
     with multiprocessing.get_context("spawn").Pool(1) as pool:
-        assert pool.map_async(cut, [untested, untested.share()]).get(WAIT)[0][0] == [LINE]
+        assert pool.map_async(segment, [untested, untested.share()]).get(WAIT)[0][0] == [LINE]
     again = pickle.dumps(untested)
     untested.close()
     assert pickle.loads(again).wakati(LINE) == [LINE]

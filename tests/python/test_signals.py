@@ -18,7 +18,7 @@ WAIT = 60
 TIMES = 2000
 
 CALLS = {
-    "cut": lambda segmenter: [
+    "segment": lambda segmenter: [
         (word.surface, word.feature, word.total) for word in segmenter.words(LINE)
     ],
     "wakati": lambda segmenter: segmenter.wakati(LINE),
@@ -48,7 +48,7 @@ def first(system):
 
 
 @pytest.fixture(scope="module")
-def answers(first):
+def results(first):
     return {name: call(first) for name, call in CALLS.items()}
 
 
@@ -105,31 +105,31 @@ def is_closed_by_another_thread(segmenter):
 
 
 @pytest.mark.parametrize("name", CALLS)
-def test_an_exception_before_any_step_leaves_nothing_behind(first, answers, name):
+def test_an_exception_before_any_step_leaves_nothing_open(first, results, name):
     """The calls after it return what they always return, and `close` ends."""
-    call, other = CALLS[name], "wakati" if name == "cut" else "cut"
+    call, other = CALLS[name], "wakati" if name == "segment" else "segment"
     for step in count(1):
         segmenter = first.share()
         new = interrupted(lambda: call(segmenter), step)
-        assert call(segmenter) == answers[name], step
-        assert CALLS[other](segmenter) == answers[other], step
+        assert call(segmenter) == results[name], step
+        assert CALLS[other](segmenter) == results[other], step
         used = interrupted(lambda: call(segmenter), step)
-        assert CALLS[other](segmenter) == answers[other], step
+        assert CALLS[other](segmenter) == results[other], step
         assert is_closed_by_another_thread(segmenter), step
         if new is used is None:
             break
 
 
 @pytest.mark.parametrize("name", CALLS)
-def test_a_timer_that_raises_leaves_nothing_behind(first, answers, name):
+def test_a_timer_that_raises_leaves_nothing_open(first, results, name):
     segmenter = first.share()
     interrupt(lambda: CALLS[name](segmenter), TIMES)
-    for other, wanted in answers.items():
+    for other, wanted in results.items():
         assert CALLS[other](segmenter) == wanted
     assert is_closed_by_another_thread(segmenter)
 
 
-def test_a_timer_that_raises_in_short_calls_leaves_nothing_behind(first):
+def test_a_timer_that_raises_in_short_calls_leaves_nothing_open(first):
     segmenter, wanted = first.share(), first.wakati("もも")
     interrupt(lambda: segmenter.wakati("もも"), 5 * TIMES)
     assert segmenter.wakati("もも") == wanted
@@ -146,8 +146,8 @@ def test_a_timer_ends_a_call_over_a_long_text(first):
     before = signal.signal(signal.SIGALRM, stop)
     try:
         for call in (first.words, first.wakati, first.parse):
-            signal.setitimer(signal.ITIMER_REAL, 0.1)
             with pytest.raises(Interrupt):
+                signal.setitimer(signal.ITIMER_REAL, 0.1)
                 call(text)
     finally:
         signal.signal(signal.SIGALRM, before)
@@ -155,7 +155,7 @@ def test_a_timer_ends_a_call_over_a_long_text(first):
 
 
 @pytest.mark.parametrize("name", ["lines", "wakati_lines", "lattice"])
-def test_an_exception_that_is_kept_keeps_nothing_waiting(first, answers, name):
+def test_an_exception_that_is_kept_keeps_nothing_waiting(first, results, name):
     """Its frames have the segmenter, and what the call had."""
     kept = []
     for step in count(1):
@@ -164,7 +164,7 @@ def test_an_exception_that_is_kept_keeps_nothing_waiting(first, answers, name):
         assert is_closed_by_another_thread(segmenter), step
         if kept[-1] is None:
             break
-    assert len(kept) > 10 and CALLS[name](first) == answers[name]
+    assert len(kept) > 10 and CALLS[name](first) == results[name]
 
 
 def test_no_exception_is_lost_where_a_segmenter_ends(first, monkeypatch):

@@ -12,7 +12,7 @@ from kumquatsieve import Format, KumquatsieveError, Segmenter
 THREADS = 4
 LETTERS = "すもうち東京都a1 　。𠮷\t"
 CALLS = {
-    "cut": lambda segmenter, line: [
+    "segment": lambda segmenter, line: [
         (word.surface, word.feature, word.start, word.total) for word in segmenter.words(line)
     ],
     "wakati": Segmenter.wakati,
@@ -56,23 +56,23 @@ def test_threads_get_what_one_gets(system, user, made_up, often):
 
 
 @pytest.mark.parametrize("call", [Segmenter.wakati_lines, Segmenter.parse_lines])
-def test_threads_with_shares_cut_the_parts_of_a_text(system, made_up, often, call):
+def test_threads_with_shares_segment_the_parts_of_a_text(system, made_up, often, call):
     segmenter, parts = Segmenter(system), [
         "".join(line + "\n" for line in made_up[part::THREADS]) * 20 for part in range(THREADS)
     ]
     with ThreadPoolExecutor(THREADS) as threads:
-        answers = list(threads.map(lambda part: list(call(segmenter.share(), part)), parts))
-    assert [answer for part in answers for answer in part] == list(call(segmenter, "".join(parts)))
+        results = list(threads.map(lambda part: list(call(segmenter.share(), part)), parts))
+    assert [result for part in results for result in part] == list(call(segmenter, "".join(parts)))
 
 
 def test_segmenters_of_a_dictionary_have_groupings_of_their_own(system, often):
     first, found = Segmenter(system), {}
 
-    def cut(grouping):
+    def segment(grouping):
         segmenter = Segmenter(first.dictionary, grouping=grouping)
         found[grouping] = [segmenter.wakati("abcdefgh") for _ in range(2000)]
 
-    threads = [threading.Thread(target=cut, args=[grouping]) for grouping in (0, 3, 24)]
+    threads = [threading.Thread(target=segment, args=[grouping]) for grouping in (0, 3, 24)]
     for thread in threads:
         thread.start()
     for thread in threads:
@@ -96,7 +96,7 @@ def test_threads_that_open_at_once_get_whole_dictionaries(system, often):
 
 
 @pytest.mark.parametrize("name", ["lines", "wakati_lines", "parse_lines"])
-def test_a_source_sees_the_context_of_the_thread_that_asks(system, often, name):
+def test_a_source_sees_the_context_of_the_thread_that_reads(system, often, name):
     """A source may read variables of the context (contextvars), whoever made the iterator."""
     segmenter, variable, found = Segmenter(system), contextvars.ContextVar("variable"), {}
 
@@ -104,14 +104,14 @@ def test_a_source_sees_the_context_of_the_thread_that_asks(system, often, name):
         while True:
             yield variable.get()
 
-    def ask(text):
+    def read_context(text):
         variable.set(text)
         wanted = next(getattr(segmenter, name)([text]))
-        answers = getattr(segmenter, name)(source())
-        found[text] = all(next(answers) == wanted for _ in range(500)), variable.get()
+        results = getattr(segmenter, name)(source())
+        found[text] = all(next(results) == wanted for _ in range(500)), variable.get()
 
     texts = ["もも", "すもも", "zz", "もも zz"]
-    threads = [threading.Thread(target=ask, args=[text]) for text in texts]
+    threads = [threading.Thread(target=read_context, args=[text]) for text in texts]
     for thread in threads:
         thread.start()
     for thread in threads:
@@ -152,9 +152,9 @@ def test_a_grouping_that_is_too_large(system):
 
 
 def test_a_generator_may_be_called_by_other_threads_in_turn(system):
-    answers, found = Segmenter(system).lines(["もも"] * THREADS), []
+    results, found = Segmenter(system).lines(["もも"] * THREADS), []
     for _ in range(THREADS):
-        thread = threading.Thread(target=lambda: found.append(next(answers)[0].surface))
+        thread = threading.Thread(target=lambda: found.append(next(results)[0].surface))
         thread.start()
         thread.join()
     assert found == ["もも"] * THREADS
