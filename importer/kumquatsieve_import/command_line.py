@@ -46,7 +46,7 @@ DEBIAN_NAMES = {
 
 
 class Choices(NamedTuple):
-    """What a command line asks for.
+    """The options and arguments of a command line.
 
     `name` is the directory of sources, or the name of a dictionary that Debian packages. Without
     the path `image`, the image is installed by that name. If there are `lexicons`, they are

@@ -30,18 +30,18 @@ SYNC_INTERVAL = 8 << 20
 IDLE = 1.0
 
 
-def program_beside(own: bytes, name: bytes) -> bytes:
+def program_next_to(own: bytes, name: bytes) -> bytes:
     """Returns the path of a program in the directory `own`, or else the one on the PATH."""
-    beside = os.path.join(own, name)
-    found = beside if os.access(beside, os.X_OK) else shutil.which(name)
+    path = os.path.join(own, name)
+    found = path if os.access(path, os.X_OK) else shutil.which(name)
     if found is None:
         message = f"{printable(name)} is neither in {printable(own)} nor on the PATH"
         raise Error(FILE, message)
     return os.path.abspath(found)
 
 
-def dictc_beside(own: bytes) -> bytes:
-    return program_beside(own, b"dictc")
+def dictc_next_to(own: bytes) -> bytes:
+    return program_next_to(own, b"dictc")
 
 
 def make_image_pipe(work: bytes) -> bytes:

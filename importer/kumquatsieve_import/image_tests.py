@@ -6,7 +6,7 @@ import stat
 import time
 from typing import Callable, NamedTuple, Optional, Sequence, Tuple
 
-from .compilation import lines_of, program_beside, status_of
+from .compilation import lines_of, program_next_to, status_of
 from .errors import FILE, INVALID, Error, errors_of, printable
 from .image_dirs import find_image, search_hint
 from .installing import Destination, record_of
@@ -224,7 +224,7 @@ def test_new(
         return
     named = printable(destination.named)
     try:
-        tools = Tools(program_beside(own, b"jseg"), resources, reporter)
+        tools = Tools(program_next_to(own, b"jseg"), resources, reporter)
         why = test_image(destination.image, tools)
         report_tested(destination.named, why, reporter)
     except Error as error:
@@ -244,7 +244,7 @@ def check_found(path: bytes, prefix: bytes) -> None:
 
 def test_all(names: Sequence[bytes], own: bytes, resources: Resources, reporter: Reporter) -> int:
     """Tests images, each by its path or its bare name. Returns the status of the first error."""
-    tools, status = Tools(program_beside(own, b"jseg"), resources, reporter), 0
+    tools, status = Tools(program_next_to(own, b"jseg"), resources, reporter), 0
     prefix = os.path.dirname(own)
     for name in names:
         path = find_image(name, prefix) or name

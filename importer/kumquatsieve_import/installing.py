@@ -58,7 +58,7 @@ class Destination:
         """Returns whether the image is written to a device or a pipe, with nothing beside it."""
         return os.path.exists(self.image) and not os.path.isfile(self.image)
 
-    def beside(self, name: bytes) -> Optional[bytes]:
+    def companion_path(self, name: bytes) -> Optional[bytes]:
         """Returns the path of a file beside the image, as NAME.dicrc of NAME.img.
 
         Returns None if its name would be too long.
@@ -73,7 +73,7 @@ class Destination:
         if os.path.basename(self.named) in (b"", b".", b".."):
             raise Error(FILE, f"{printable(self.named)} is not a file name")
 
-    def check_beside_sources(self, folder: Folder, settings: Sequence[bytes]) -> None:
+    def check_targets_of_sources(self, folder: Folder, settings: Sequence[bytes]) -> None:
         """Rejects a path of the image or of its settings that is a directory or a source.
 
         A source is recognized by whichever name it has.
@@ -81,7 +81,7 @@ class Destination:
         self.check_file()
         targets = [self.named]
         if not self.is_device():
-            targets += filter(None, map(self.beside, settings))
+            targets += filter(None, map(self.companion_path, settings))
         for target in targets:
             if os.path.isdir(target):
                 raise Error(FILE, f"{printable(target)}: is a directory")
@@ -90,10 +90,10 @@ class Destination:
                     message = f"would overwrite a source file: {printable(path)}"
                     raise Error(USAGE, f"{printable(target)} {message}")
 
-    def check_beside_files(self, paths: Sequence[bytes]) -> None:
+    def check_targets_of_files(self, paths: Sequence[bytes]) -> None:
         """Rejects a path of the image that is a directory or one of `paths`, which are read."""
         self.check_file()
-        record = self.beside(TESTED)
+        record = self.companion_path(TESTED)
         if record and os.path.isdir(record):
             raise Error(FILE, f"{printable(record)}: is a directory")
         for path in paths:
@@ -119,11 +119,11 @@ class Destination:
             return []
         moves: List[Move] = []
         for name, path in settings.items():
-            target = self.beside(name)
+            target = self.companion_path(name)
             if target is not None:
                 moves.append((path, target))
         write_checksums(new, [path for path, _ in moves if path])
-        record = self.beside(TESTED)
+        record = self.companion_path(TESTED)
         with locked(self.folder, reporter), resources.signals.held():
             removed = [target for path, target in moves if path is None and os.path.lexists(target)]
             moves += [(None, record)] if record else []

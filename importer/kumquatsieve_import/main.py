@@ -5,7 +5,7 @@ import sys
 from typing import Dict, List, NoReturn, Optional, Sequence
 
 from .command_line import DEBIAN_NAMES, HELP, Choices, parse_arguments, utf_8_arguments
-from .compilation import NEW, Compilation, ImageFile, dictc_beside, make_image_pipe
+from .compilation import NEW, Compilation, ImageFile, dictc_next_to, make_image_pipe
 from .conversion import make_utf_8, write_converted
 from .encoding_detection import find_encoding
 from .encodings import Encoding, missing_converter
@@ -37,7 +37,7 @@ class Import:
             self.folder = read_folder(debian_folder(DEBIAN_NAMES[choices.name]))
         else:
             self.folder = read_folder(choices.name.rstrip(b"/") or b"/")
-        self.dictc = dictc_beside(own)
+        self.dictc = dictc_next_to(own)
         self.prefix = os.path.dirname(own)
         # The directory that the image is installed to, if the command line has no path for it.
         self.image_dir: Optional[ImageDir] = None
@@ -46,7 +46,7 @@ class Import:
             self.image_dir = image_dir_for(self.prefix)
             image = os.path.join(self.image_dir.path, choices.name + b".img")
         self.destination = Destination(image)
-        self.destination.check_beside_sources(self.folder, [*SETTINGS, FIELDS, TESTED])
+        self.destination.check_targets_of_sources(self.folder, [*SETTINGS, FIELDS, TESTED])
 
     def run(self) -> None:
         let_all_read(self.destination.image, self.prefix)
@@ -54,15 +54,15 @@ class Import:
             let_none_write()
             self.resources.make_parents(self.image_dir.path)
         is_device = self.destination.is_device()
-        beside = self.resources.new_folder(None if is_device else self.destination.folder)
+        staging = self.resources.new_folder(None if is_device else self.destination.folder)
         work = self.resources.new_folder()
         encoding = self.report_sources()
         names = self.convert(encoding, work)
-        settings = self.convert_settings(encoding, beside)
+        settings = self.convert_settings(encoding, staging)
         if not is_device:
-            settings[FIELDS] = self.name_fields(names, settings[DICRC], work, beside)
-        counts = self.compile(names, work, beside)
-        new = os.path.join(beside, NEW)
+            settings[FIELDS] = self.name_fields(names, settings[DICRC], work, staging)
+        counts = self.compile(names, work, staging)
+        new = os.path.join(staging, NEW)
         size = os.path.getsize(new)
         removed = self.destination.install(new, settings, self.resources, self.reporter)
         self.report_end(counts, size, settings, removed)
@@ -93,19 +93,19 @@ class Import:
             make_utf_8(source, encoding, os.path.join(work, name), self.reporter, leave_out)
         return {name: source.path for name, source in names.items()}
 
-    def convert_settings(self, encoding: Encoding, beside: bytes) -> Settings:
+    def convert_settings(self, encoding: Encoding, staging: bytes) -> Settings:
         """Converts the settings files."""
         found: Settings = {name: None for name in SETTINGS}
         leave_out = self.reporter.report_left_out
         for source in [] if self.destination.is_device() else self.folder.settings:
             if self.is_kept(source.name):
-                target = os.path.join(beside, source.name)
+                target = os.path.join(staging, source.name)
                 found[source.name] = target
                 write_converted(source, encoding, target, self.reporter, leave_out)
         return found
 
     def name_fields(
-        self, names: Dict[bytes, bytes], dicrc: Optional[bytes], work: bytes, beside: bytes
+        self, names: Dict[bytes, bytes], dicrc: Optional[bytes], work: bytes, staging: bytes
     ) -> Optional[bytes]:
         """Writes the file of the fields' names, from sources in UTF-8.
 
@@ -122,21 +122,21 @@ class Import:
         self.reporter.report(f"fields: {found.message}")
         if not found.names:
             return None
-        write_names(found.names, os.path.join(beside, FIELDS))
-        return os.path.join(beside, FIELDS)
+        write_names(found.names, os.path.join(staging, FIELDS))
+        return os.path.join(staging, FIELDS)
 
     def is_kept(self, name: bytes) -> bool:
         """Returns whether a file of this name can be kept beside the image, and reports if not."""
-        if self.destination.beside(name) is None:
+        if self.destination.companion_path(name) is None:
             why = "because its name beside the image would be too long"
             self.reporter.report(f"not kept: {printable(name)}, {why}")
             return False
         return True
 
-    def compile(self, names: Dict[bytes, bytes], work: bytes, beside: bytes) -> str:
+    def compile(self, names: Dict[bytes, bytes], work: bytes, staging: bytes) -> str:
         """Runs dictc, and returns the counts that it prints."""
         new = make_image_pipe(work)
-        image = ImageFile(beside, work, self.destination.named, self.resources)
+        image = ImageFile(staging, work, self.destination.named, self.resources)
         files = [b"matrix.def", b"--char", b"char.def", b"--unk", b"unk.def", b"--out", new]
         lexicons = [name for name in names if name.endswith(b".csv")]
         compilation = Compilation({**names, new: self.destination.named}, self.reporter)
@@ -155,7 +155,7 @@ class Import:
         kept: List[bytes] = []
         written: List[bytes] = []
         for name, path in settings.items():
-            target = self.destination.beside(name) if path else None
+            target = self.destination.companion_path(name) if path else None
             if target is not None:
                 (written if name == FIELDS else kept).append(target)
         for what, paths in (("kept", kept), ("written", written), ("removed", removed)):

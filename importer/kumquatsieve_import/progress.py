@@ -49,7 +49,7 @@ class Reporter:
         return time.monotonic() - self.start
 
     def set_verbose(self) -> None:
-        """Logs each step in a line of its own, as -v asks for."""
+        """Logs each step in a line of its own, for the option -v."""
         self.is_verbose = self.logs_steps = True
         self.has_status_line = False
 

@@ -80,11 +80,11 @@ class Resources:
         self.files.append(file)
         return file
 
-    def new_folder(self, beside: Optional[bytes] = None) -> bytes:
-        """Makes a temporary directory in `beside`, or in the system's directory for them."""
+    def new_folder(self, folder: Optional[bytes] = None) -> bytes:
+        """Makes a temporary directory in `folder`, or in the system's directory for them."""
         with self.signals.held():
-            parent = beside if beside is not None else temporary_folder()
-            prefix = b"." + PREFIX if beside is not None else PREFIX
+            parent = folder if folder is not None else temporary_folder()
+            prefix = b"." + PREFIX if folder is not None else PREFIX
             with errors_of(parent):
                 self.folders.append(tempfile.mkdtemp(prefix=prefix, dir=parent))
         return self.folders[-1]

@@ -6,7 +6,7 @@ import os
 from typing import Dict, NoReturn
 
 from .command_line import Choices
-from .compilation import NEW, Compilation, ImageFile, dictc_beside, make_image_pipe
+from .compilation import NEW, Compilation, ImageFile, dictc_next_to, make_image_pipe
 from .conversion import make_utf_8
 from .encoding_detection import find_encoding
 from .encodings import Encoding
@@ -46,23 +46,23 @@ class UserImport:
         assert choices.image is not None
         self.choices, self.resources, self.reporter = choices, resources, reporter
         self.lexicons = list(map(lexicon_at, choices.lexicons))
-        self.own, self.dictc = own, dictc_beside(own)
+        self.own, self.dictc = own, dictc_next_to(own)
         self.prefix = os.path.dirname(own)
         self.system = find_image(choices.name, self.prefix)
         self.destination = Destination(choices.image)
         read = [*choices.lexicons, *([self.system] if self.system else [])]
-        self.destination.check_beside_files(read)
+        self.destination.check_targets_of_files(read)
 
     def run(self) -> None:
         let_all_read(self.destination.image, self.prefix)
         is_device = self.destination.is_device()
-        beside = self.resources.new_folder(None if is_device else self.destination.folder)
+        staging = self.resources.new_folder(None if is_device else self.destination.folder)
         work = self.resources.new_folder()
         given, first = self.choices.encoding, self.choices.lexicons[0]
         encoding = find_encoding(self.lexicons, given, None, first, self.reporter)
         self.reporter.report(f"encoding: {encoding.name}")
-        counts = self.compile(self.convert(encoding, work), work, beside)
-        new = os.path.join(beside, NEW)
+        counts = self.compile(self.convert(encoding, work), work, staging)
+        new = os.path.join(staging, NEW)
         size = os.path.getsize(new)
         self.destination.install(new, {}, self.resources, self.reporter)
         self.report_end(counts, size)
@@ -80,14 +80,14 @@ class UserImport:
             make_utf_8(lexicon, encoding, os.path.join(empty, name), self.reporter, reject_line)
         return names
 
-    def compile(self, names: Dict[bytes, bytes], work: bytes, beside: bytes) -> str:
+    def compile(self, names: Dict[bytes, bytes], work: bytes, staging: bytes) -> str:
         """Runs dictc, and returns the counts that it prints.
 
         If there is no such system dictionary, dictc finds none either, and reports its name.
         """
         new, system = ABOVE + make_image_pipe(work), self.system_for_dictc(work)
         named = self.destination.named
-        image = ImageFile(beside, work, named, self.resources)
+        image = ImageFile(staging, work, named, self.resources)
         compilation = Compilation({**names, new: named, system: self.choices.name}, self.reporter)
         command = [self.dictc, b"user", b"-v", b"--dic=" + system, b"--out", new, *names]
         return compilation.run(command, os.path.join(work, EMPTY), self.resources, image)
