@@ -57,8 +57,8 @@ IsRecordResult number line outcome =
 
 -- the record that an outcome accepts
 abbrev pub IsAcceptedRecord : Outcome → Result Record SourceKind → Type 0
-IsAcceptedRecord outcome outcome =
-    MatchResult outcome (λ made. outcome ≡ Accepted (row_of made)) (λ kind. IsOrMemory kind (outcome ≡ Rejected kind))
+IsAcceptedRecord outcome returned =
+    MatchResult returned (λ made. outcome ≡ Accepted (row_of made)) (λ kind. IsOrMemory kind (outcome ≡ Rejected kind))
 
 -- the row, or an error because one of its numbers is invalid
 abbrev pub IsRowResult : Option Row → Result Record SourceKind → Type 0
